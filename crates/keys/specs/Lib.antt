@@ -1,0 +1,3 @@
+pub mod Choice
+pub mod Keys
+pub mod Walk

@@ -1,0 +1,106 @@
+// What two keys share: the length of their longest common prefix, and whether they are equal.
+ghost use mathlib.Core.Path.{_≡_};
+ghost use Prim.Native.Nat.{_≤_};
+ghost use Rattle.keys.specs.Keys.{common, sameBytes};
+ghost use Rattle.keys.specs.Walk.{Near, Reach};
+use crate::walk;
+use octets::number;
+
+// The half that has the first difference: four bytes of eight.
+fn half_4(a: &[u8], b: &[u8], i: usize) -> usize
+    requires { ⌜ Near (now a) (now b) i 8 ⌝ }
+    ensures { λ r. ⌜ Near (now (a .entry)) (now (b .entry)) r 4 ⌝ }
+{
+    if number::read_u32(a, i) != number::read_u32(b, i) {
+        return i;
+    }
+    i + 4
+}
+
+// Two bytes of four.
+fn half_2(a: &[u8], b: &[u8], i: usize) -> usize
+    requires { ⌜ Near (now a) (now b) i 4 ⌝ }
+    ensures { λ r. ⌜ Near (now (a .entry)) (now (b .entry)) r 2 ⌝ }
+{
+    if number::read_u16(a, i) != number::read_u16(b, i) {
+        return i;
+    }
+    i + 2
+}
+
+// One byte of two.
+fn half_1(a: &[u8], b: &[u8], i: usize) -> usize
+    requires { ⌜ Near (now a) (now b) i 2 ⌝ }
+    ensures { λ r. ⌜ Near (now (a .entry)) (now (b .entry)) r 1 ⌝ }
+{
+    if number::read_u8(a, i) != number::read_u8(b, i) {
+        return i;
+    }
+    i + 1
+}
+
+// The first difference among eight bytes, by halves.
+fn halves(a: &[u8], b: &[u8], i: usize) -> usize
+    requires { ⌜ Near (now a) (now b) i 8 ⌝ }
+    ensures { λ r. ⌜ r ≡ common (now (a .entry)) (now (b .entry)) ⌝ }
+{
+    let j = half_4(a, b, i);
+    let k = half_2(a, b, j);
+    half_1(a, b, k)
+}
+
+// Words of eight bytes, the last one up to the end.
+fn words(a: &[u8], b: &[u8], from: usize, n: usize) -> usize
+    requires { ⌜ (8 ≤ n) × Reach (now a) (now b) from n ⌝ }
+    ensures { λ r. ⌜ r ≡ common (now (a .entry)) (now (b .entry)) ⌝ }
+{
+    let mut i = from;
+    while n - i >= 8 {
+        if number::read_u64(a, i) != number::read_u64(b, i) {
+            return halves(a, b, i);
+        }
+        i += 8;
+    }
+    let last = n - 8;
+    if number::read_u64(a, last) != number::read_u64(b, last) {
+        return halves(a, b, last);
+    }
+    n
+}
+
+// Fewer than eight bytes, one by one.
+fn singles(a: &[u8], b: &[u8], n: usize) -> usize
+    requires { ⌜ Reach (now a) (now b) 0 n ⌝ }
+    ensures { λ r. ⌜ r ≡ common (now (a .entry)) (now (b .entry)) ⌝ }
+{
+    let mut i = 0;
+    while i < n {
+        if number::read_u8(a, i) != number::read_u8(b, i) {
+            return i;
+        }
+        i += 1;
+    }
+    n
+}
+
+// How many leading bytes two keys share.
+pub fn common_prefix_len(a: &[u8], b: &[u8]) -> usize
+    ensures { λ r. ⌜ r ≡ common (now (a .entry)) (now (b .entry)) ⌝ }
+{
+    let n = walk::lesser(a.len(), b.len());
+    if n < 8 {
+        return singles(a, b, n);
+    }
+    let from = walk::first(a, b, n);
+    words(a, b, from, n)
+}
+
+// Whether two keys hold the same bytes.
+pub fn equal(a: &[u8], b: &[u8]) -> bool
+    ensures { λ r. ⌜ r ≡ sameBytes (now (a .entry)) (now (b .entry)) ⌝ }
+{
+    if a.len() != b.len() {
+        return false;
+    }
+    common_prefix_len(a, b) == a.len()
+}
