@@ -11,7 +11,7 @@ use lib.Dec.{eqb}
 use lib.ListN.{length, getD, drop}
 use lib.Seq.{drop-cons}
 use Rattle.keys.specs.Choice.{both}
-use Rattle.keys.specs.Keys.{byNumber, order, flip, sameBytes}
+use Rattle.keys.specs.Keys.{byNumber, order, flip, sameList}
 use Rattle.keys.specs.declared.order.Order.{Order}
 use Rattle.keys.specs.declared.order.Order.the-variants.{Below, Same, Above}
 use Rattle.keys.proofs.Numbers.{below-same, below-above, same-above, byNumber-lt, byNumber-eq, byNumber-flip, byNumber-below, byNumber-same}
@@ -86,30 +86,30 @@ unfolding order
 order-step a b i h k = rw (drop-cons a i 0, drop-cons b i 0)
 
 -- ---- the same bytes
-pub sameBytes-refl : (a : List ℕ) → sameBytes a a ≡ true
-unfolding sameBytes
-sameBytes-refl [] = refl
-sameBytes-refl (x ∷ xs) = rw (eq-eqb x x refl) (sameBytes-refl xs)
+pub sameList-refl : (a : List ℕ) → sameList a a ≡ true
+unfolding sameList
+sameList-refl [] = refl
+sameList-refl (x ∷ xs) = rw (eq-eqb x x refl) (sameList-refl xs)
 
 -- a true test means equal keys, and equal keys make it true
-pub sameBytes-eq : (a b : List ℕ) → sameBytes a b ≡ true → a ≡ b
-unfolding sameBytes
-sameBytes-eq [] [] e = refl
-sameBytes-eq [] (y ∷ ys) e = absurd (let z : _≡_ {A = ℕ} 0 1 = cc in omega arith)
-sameBytes-eq (x ∷ xs) [] e = absurd (let z : _≡_ {A = ℕ} 0 1 = cc in omega arith)
-sameBytes-eq (x ∷ xs) (y ∷ ys) e = go (eqb x y) refl (sameBytes-eq xs ys) e
+pub sameList-eq : (a b : List ℕ) → sameList a b ≡ true → a ≡ b
+unfolding sameList
+sameList-eq [] [] e = refl
+sameList-eq [] (y ∷ ys) e = absurd (let z : _≡_ {A = ℕ} 0 1 = cc in omega arith)
+sameList-eq (x ∷ xs) [] e = absurd (let z : _≡_ {A = ℕ} 0 1 = cc in omega arith)
+sameList-eq (x ∷ xs) (y ∷ ys) e = go (eqb x y) refl (sameList-eq xs ys) e
   where
-    go : (t : Bool) → eqb x y ≡ t → (sameBytes xs ys ≡ true → xs ≡ ys) → both t (sameBytes xs ys) ≡ true → x ∷ xs ≡ y ∷ ys
+    go : (t : Bool) → eqb x y ≡ t → (sameList xs ys ≡ true → xs ≡ ys) → both t (sameList xs ys) ≡ true → x ∷ xs ≡ y ∷ ys
     go true q next r = cc (eqb-true x y q, next r)
     go false q next r = absurd (let z : _≡_ {A = ℕ} 0 1 = cc in omega arith)
 
-pub eq-sameBytes : (a b : List ℕ) → a ≡ b → sameBytes a b ≡ true
-eq-sameBytes a b e = rw (← e) (sameBytes-refl a)
+pub eq-sameList : (a b : List ℕ) → a ≡ b → sameList a b ≡ true
+eq-sameList a b e = rw (← e) (sameList-refl a)
 
 -- keys that are not equal make it false
-pub ne-sameBytes : (a b : List ℕ) → (a ≡ b → ⊥) → sameBytes a b ≡ false
-ne-sameBytes a b h = go (sameBytes a b) refl
+pub ne-sameList : (a b : List ℕ) → (a ≡ b → ⊥) → sameList a b ≡ false
+ne-sameList a b h = go (sameList a b) refl
   where
-    go : (t : Bool) → sameBytes a b ≡ t → t ≡ false
-    go true e = absurd (h (sameBytes-eq a b e))
+    go : (t : Bool) → sameList a b ≡ t → t ≡ false
+    go true e = absurd (h (sameList-eq a b e))
     go false e = refl

@@ -12,10 +12,10 @@ use lib.Dec.{eqb}
 use lib.ListN.{length, getD, take, drop, length-take}
 use lib.Seq.{ext-getD, getD-take, length-take-le}
 use Rattle.octets.proofs.Alike.{Alike}
-use Rattle.keys.specs.Keys.{byNumber, order, common, sameBytes}
+use Rattle.keys.specs.Keys.{byNumber, order, common, sameList}
 use Rattle.keys.specs.declared.order.Order.the-variants.{Same}
 use Rattle.keys.proofs.Numbers.{alike?, byNumber-lt, byNumber-eq, byNumber-gt, byNumber-ne, byNumber-suc}
-use Rattle.keys.proofs.Orders.{order-same, order-step, eq-sameBytes, ne-sameBytes}
+use Rattle.keys.proofs.Orders.{order-same, order-step, eq-sameList, ne-sameList}
 
 -- ---- one byte of each
 pub common-eq : (x y : ℕ) (xs ys : List ℕ) → x ≡ y → common (x ∷ xs) (y ∷ ys) ≡ suc (common xs ys)
@@ -159,8 +159,8 @@ pub all-common : (a b : List ℕ) → length a ≡ length b → common a b ≡ l
 all-common a b e c = order-same a b (order-lengths a b (inl (omega arith)) ∙ byNumber-eq (length a) (length b) Same e)
 
 -- so for keys of one length the test of the common prefix is the test of the bytes
-pub common-test : (a b : List ℕ) → length a ≡ length b → eqb (common a b) (length a) ≡ sameBytes a b
+pub common-test : (a b : List ℕ) → length a ≡ length b → eqb (common a b) (length a) ≡ sameList a b
 common-test a b e =
-    ⊎-elim (λ c. eq-eqb (common a b) (length a) c ∙ sym (eq-sameBytes a b (all-common a b e c)))
-    (λ c. ne-eqb (common a b) (length a) c ∙ sym (ne-sameBytes a b (λ s. c (ap (λ (x : List ℕ). common a x) (sym s) ∙ common-self a))))
+    ⊎-elim (λ c. eq-eqb (common a b) (length a) c ∙ sym (eq-sameList a b (all-common a b e c)))
+    (λ c. ne-eqb (common a b) (length a) c ∙ sym (ne-sameList a b (λ s. c (ap (λ (x : List ℕ). common a x) (sym s) ∙ common-self a))))
     (alike? (common a b) (length a))

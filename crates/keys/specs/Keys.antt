@@ -40,9 +40,9 @@ common [] ys = 0
 common (x ∷ xs) [] = 0
 common (x ∷ xs) (y ∷ ys) = pick (eqb x y) (suc (common xs ys)) 0
 
--- whether two keys hold the same bytes
-unfoldable pub sameBytes : List ℕ → List ℕ → Bool
-sameBytes [] [] = true
-sameBytes [] (y ∷ ys) = false
-sameBytes (x ∷ xs) [] = false
-sameBytes (x ∷ xs) (y ∷ ys) = both (eqb x y) (sameBytes xs ys)
+-- whether two keys hold the same bytes (or any two lists the same numbers)
+unfoldable pub sameList : List ℕ → List ℕ → Bool
+sameList [] [] = true
+sameList [] (y ∷ ys) = false
+sameList (x ∷ xs) [] = false
+sameList (x ∷ xs) (y ∷ ys) = both (eqb x y) (sameList xs ys)

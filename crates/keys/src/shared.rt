@@ -1,7 +1,7 @@
 // What two keys share: the length of their longest common prefix, and whether they are equal.
 ghost use mathlib.Core.Path.{_≡_};
 ghost use Prim.Native.Nat.{_≤_};
-ghost use Rattle.keys.specs.Keys.{common, sameBytes};
+ghost use Rattle.keys.specs.Keys.{common, sameList};
 ghost use Rattle.keys.specs.Walk.{Near, Reach};
 use crate::walk;
 use octets::number;
@@ -97,7 +97,7 @@ pub fn common_prefix_len(a: &[u8], b: &[u8]) -> usize
 
 // Whether two keys hold the same bytes.
 pub fn equal(a: &[u8], b: &[u8]) -> bool
-    ensures { λ r. ⌜ r ≡ sameBytes (now (a .entry)) (now (b .entry)) ⌝ }
+    ensures { λ r. ⌜ r ≡ sameList (now (a .entry)) (now (b .entry)) ⌝ }
 {
     if a.len() != b.len() {
         return false;

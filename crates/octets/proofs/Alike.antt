@@ -40,6 +40,13 @@ part-alike n p o q r h e =
     (λ i l. let k : i < n = omega (arith, length-part n p o) in part-at n p o i k ∙ h i k ∙ sym (part-at n q r i k))
 
 -- ---- which places lie alike
+-- some of them
+pub alike-within : (n : ℕ) (p : List ℕ) (o : ℕ) (q : List ℕ) (r : ℕ) → Alike n p o q r → (m k : ℕ) → k + m ≤ n → Alike m p (o + k) q (r + k)
+alike-within n p o q r h m k l i j =
+    let e : o + k + i ≡ o + (k + i) = omega arith in
+    let f : r + k + i ≡ r + (k + i) = omega arith in
+    rw (e, f) (h (k + i) (omega arith))
+
 -- below a run that was put, and above it
 pub alike-below : (n : ℕ) (p : List ℕ) (o : ℕ) (bs : List ℕ) (i : ℕ) → i + n ≤ o → Alike n (put p o bs) i p i
 alike-below n p o bs i h k l = put-below p o bs (i + k) (omega arith)

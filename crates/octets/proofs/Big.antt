@@ -1,14 +1,14 @@
 -- Laws of big-endian numbers, `be`: how large a number is, that equal numbers have equal bytes, and the forms in which code reads four
 -- and eight bytes. Assumes nothing.
-use mathlib.Core.Path.{_≡_, ap}
-use mathlib.Core.List.{List, _∷_}
-use Prim.Native.Nat.{ℕ, zero, suc, _+_, _*_, _^_, _<_}
-use native.Mathlib.Nat.{pow-suc, mul-le-mul-right, suc-mul, add-zero, zero-add, suc-add}
+use mathlib.Core.Path.{_≡_, refl, ap}
+use mathlib.Core.List.{List, [], _∷_}
+use Prim.Native.Nat.{ℕ, zero, suc, _+_, _*_, _/_, _%_, _^_, _≤_, _<_}
+use native.Mathlib.Nat.{pow-suc, mul-le-mul-right, suc-mul, add-zero, zero-add, suc-add, div-lt-iff-lt-mul, mod-lt, mul-add-div-right, div-eq-of-lt, mul-add-mod-self-right, mod-eq-of-lt}
 use native.Mathlib.Numerals.{towards-suc}
 use native.Mathlib.Decide.{decLt}
 use native.Mathlib.Omega.{arith}
-use lib.ListN.{getD}
-use Rattle.octets.specs.Bytes.{IsBytes, be}
+use lib.ListN.{length, getD, take}
+use Rattle.octets.specs.Bytes.{IsBytes, be, bigBytes}
 use Rattle.octets.proofs.Alike.{Alike, be-alike}
 
 -- ---- two digits in base P
@@ -54,6 +54,34 @@ be-same (suc n) p o q r hp hq e (suc k) h =
     let f : o + suc k ≡ suc o + k = omega arith in
     let g : r + suc k ≡ suc r + k = omega arith in
     rw (f, g) (be-same n p (suc o) q (suc r) hp hq (d .1) k (omega arith))
+
+-- ---- the bytes of a number, highest first
+pub length-bigBytes : (n v : ℕ) → length (bigBytes n v) ≡ n
+unfolding bigBytes
+length-bigBytes zero v = refl
+length-bigBytes (suc n) v = ap suc (length-bigBytes n (v % 256 ^ n))
+
+pub bigBytes-bytes : (n v : ℕ) → v < 256 ^ n → IsBytes (bigBytes n v)
+unfolding bigBytes
+bigBytes-bytes zero v h i = omega arith
+bigBytes-bytes (suc n) v h zero =
+    let m : v < 256 * 256 ^ n = omega arith in
+    let z : 0 < 256 ^ n = omega arith in
+    div-lt-iff-lt-mul z .1 m
+bigBytes-bytes (suc n) v h (suc i) = let z : 0 < 256 ^ n = omega arith in bigBytes-bytes n (v % 256 ^ n) (mod-lt v z) i
+
+-- the bytes of the number that a short list of bytes makes, zero padded, are that list
+pub bigBytes-be : (n : ℕ) (s : List ℕ) → IsBytes s → length s ≤ n → take (length s) (bigBytes n (be n s 0)) ≡ s
+unfolding bigBytes
+bigBytes-be zero [] h l = refl
+bigBytes-be zero (x ∷ xs) h l = absurd (omega arith)
+bigBytes-be (suc n) [] h l = refl
+bigBytes-be (suc n) (x ∷ xs) h l =
+    let b : be n xs 0 < 256 ^ n = be-lt n xs 0 (λ i. h (suc i)) in
+    let z : 0 < 256 ^ n = omega arith in
+    let d : (x * 256 ^ n + be n xs 0) / 256 ^ n ≡ x = rw (mul-add-div-right z x (be n xs 0), div-eq-of-lt b, add-zero x) in
+    let m : (x * 256 ^ n + be n xs 0) % 256 ^ n ≡ be n xs 0 = rw (mul-add-mod-self-right x (256 ^ n) (be n xs 0), mod-eq-of-lt b) in
+    rw (be-cons n x xs, d, m, bigBytes-be n xs (λ i. h (suc i)) (omega arith))
 
 -- ---- as code reads them
 pub be-four : (p : List ℕ) (o : ℕ)

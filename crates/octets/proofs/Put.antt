@@ -7,7 +7,7 @@ use native.Mathlib.Nat.{add-zero, add-suc, suc-add}
 use native.Mathlib.Omega.{arith}
 use borrow.Rule.Slice.PartMut.{putMid, midOf}
 use lib.ListN.{length, getD, set, take, drop, length-set, length-drop, drop-of-length-le, take-append-drop}
-use lib.Seq.{sets, sets-eq, getD-set-same, getD-set-other, set-comm, set-set, set-getD, drop-set-add, drop-set-lt, take-set-le, take-set-lt, take-all}
+use lib.Seq.{getD-drop, sets, sets-eq, getD-set-same, getD-set-other, set-comm, set-set, set-getD, drop-set-add, drop-set-lt, take-set-le, take-set-lt, take-all}
 use Rattle.octets.specs.Bytes.{IsBytes, part, put}
 use Rattle.octets.proofs.Part.{part-none, part-cons}
 
@@ -127,3 +127,21 @@ pub put-bytes : (p : List ℕ) (o : ℕ) (bs : List ℕ) → IsBytes p → IsByt
 unfolding put
 put-bytes p o [] h l = h
 put-bytes p o (b ∷ bs) h l = put-bytes (set p o b) (suc o) bs (set-bytes p o b h (l 0)) (λ k. l (suc k))
+
+pub append-bytes : (a b : List ℕ) → IsBytes a → IsBytes b → IsBytes (a ++ b)
+append-bytes [] b h k i = k i
+append-bytes (x ∷ a) b h k zero = h 0
+append-bytes (x ∷ a) b h k (suc i) = append-bytes a b (λ j. h (suc j)) k i
+
+pub take-bytes : (n : ℕ) (l : List ℕ) → IsBytes l → IsBytes (take n l)
+take-bytes zero l h i = omega arith
+take-bytes (suc n) [] h i = omega arith
+take-bytes (suc n) (x ∷ l) h zero = h 0
+take-bytes (suc n) (x ∷ l) h (suc i) = take-bytes n l (λ j. h (suc j)) i
+
+pub drop-bytes : (n : ℕ) (l : List ℕ) → IsBytes l → IsBytes (drop n l)
+drop-bytes n l h i = rw (getD-drop n l i 0) (h (n + i))
+
+pub part-bytes : (n : ℕ) (p : List ℕ) (o : ℕ) → IsBytes p → IsBytes (part n p o)
+unfolding part
+part-bytes n p o h = take-bytes n (drop o p) (drop-bytes o p h)

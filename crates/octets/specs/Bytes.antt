@@ -26,6 +26,11 @@ unfoldable pub bytes : ℕ → ℕ → List ℕ
 bytes zero v = []
 bytes (suc n) v = v % 256 ∷ bytes n (v / 256)
 
+-- the n bytes of v, highest first
+unfoldable pub bigBytes : ℕ → ℕ → List ℕ
+bigBytes zero v = []
+bigBytes (suc n) v = v / 256 ^ n ∷ bigBytes n (v % 256 ^ n)
+
 -- p with the run bs from o on; a byte that would stand past the end is left out
 unfoldable pub put : List ℕ → ℕ → List ℕ → List ℕ
 put p o [] = p

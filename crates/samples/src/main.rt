@@ -38,7 +38,8 @@ fn order_of(a: &[u8], b: &[u8]) {
         Order::Below => io::write_all(1, b" -1\n"),
         Order::Same => io::write_all(1, b" 0\n"),
         Order::Above => io::write_all(1, b" 1\n"),
-    };
+    }
+    ;
 }
 
 // The length of the longest common prefix.

@@ -4,7 +4,7 @@ use mathlib.Core.Path.{sym, ap}
 use Prim.Native.Nat.{ℕ}
 use borrow.Author.Needs.{needs}
 use lib.ListN.{length}
-use Rattle.keys.proofs.Orders.{ne-sameBytes}
+use Rattle.keys.proofs.Orders.{ne-sameList}
 use Rattle.keys.proofs.Prefixes.{common-test}
 use Rattle.keys.proofs.shared.equal.Statement.{statement}
 use Rattle.keys.proofs.shared.equal.Tie as tie
@@ -16,7 +16,7 @@ returns c =
     let start = ka .before in
     let a = start .args .a .now in
     let b = start .args .b .now in
-    sym (ne-sameBytes a b (λ e. c .if1 .taken (ap (λ (x : List ℕ). length x) e)))
+    sym (ne-sameList a b (λ e. c .if1 .taken (ap (λ (x : List ℕ). length x) e)))
 
 common-prefix-len-requires : tie.Need-common-prefix-len-requires
 common-prefix-len-requires c κs = search needs

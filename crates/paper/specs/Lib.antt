@@ -1,0 +1,14 @@
+pub mod Lists
+pub mod Page
+pub mod Space
+pub mod Hints
+pub mod Verdicts
+pub mod Listing
+pub mod Refusals
+pub mod Answers
+pub mod Edits
+pub mod Searches
+pub mod Calls
+pub mod Views
+pub mod Demand
+pub mod Printed
