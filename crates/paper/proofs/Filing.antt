@@ -7,7 +7,7 @@ use Prim.Native.Nat.{ℕ, _+_, _-_, _^_, _≤_}
 use native.Mathlib.Decide.{decLe}
 use native.Mathlib.Omega.{arith}
 use borrow.Author.Tests.{not-true, eqb-true, ltb-true, eq-eqb, le-leb, lt-leb}
-use lib.Dec.{leb, eqb}
+use lib.Dec.{leb}
 use lib.ListN.{length, take, length-map, length-append, take-append-drop}
 use Rattle.octets.specs.Bytes.{IsBytes, le, part}
 use Rattle.octets.proofs.Part.{length-part-le}
@@ -67,12 +67,8 @@ module _ (w : ℕ) (p : List ℕ) (size : length p ≡ 16384) (F : Fit w (viewOf
   pub prefix-length : length (frameOf p .prefix) ≡ frameOf p .prefixLen
   prefix-length = length-prefix p size (frame-rules .prefixMost)
 
-  frame-u5 : pick (upperEmpty (frameOf p)) (eqb (frameOf p .prefixLen) 0) (less (frameOf p .prefix ++ frameOf p .lowerSuffix) (frameOf p .prefix ++ frameOf p .upperSuffix)) ≡ true
-  unfolding viewOf u5
-  frame-u5 = F .r5
-
   pub take-prefix : (k : List ℕ) → inside (frameOf p) k ≡ true → take (frameOf p .prefixLen) k ≡ frameOf p .prefix
-  unfolding inside
+  unfolding inside viewOf u5
   take-prefix k e =
       let b = both-parts (not (less k (pre ++ frameOf p .lowerSuffix))) (pick (upperEmpty (frameOf p)) true (less k (pre ++ frameOf p .upperSuffix))) e in
       rw (← prefix-length) (go (upperEmpty (frameOf p)) refl (not-true (less k (pre ++ frameOf p .lowerSuffix)) (b .0)) (b .1))
@@ -87,7 +83,7 @@ module _ (w : ℕ) (p : List ℕ) (size : length p ≡ 16384) (F : Fit w (viewOf
       go : (b : Bool) → upperEmpty (frameOf p) ≡ b → less k (frameOf p .prefix ++ frameOf p .lowerSuffix) ≡ false
           → pick b true (less k (frameOf p .prefix ++ frameOf p .upperSuffix)) ≡ true → take (length (frameOf p .prefix)) k ≡ frameOf p .prefix
       go true u low high =
-          let z : frameOf p .prefixLen ≡ 0 = eqb-true (frameOf p .prefixLen) 0 (rw u at frame-u5) in
+          let z : frameOf p .prefixLen ≡ 0 = eqb-true (frameOf p .prefixLen) 0 (rw u at (F .r5)) in
           none (frameOf p .prefix) (omega (arith, prefix-length))
       go false u low high = fenced-prefix (frameOf p .prefix) (frameOf p .lowerSuffix) k (frameOf p .upperSuffix) low high
 

@@ -5,9 +5,10 @@ use mathlib.Core.List.{List, _++_, map}
 use Prim.Native.Nat.{ℕ, _+_, _-_, _≤_}
 use native.Mathlib.Omega.{arith}
 use borrow.Author.Tests.{eq-eqb}
+use lib.Dec.{eqb}
 use lib.ListN.{length, length-map}
 use Rattle.keys.specs.Choice.{pick, both}
-use Rattle.keys.specs.Keys.{order, headOf, sameList}
+use Rattle.keys.specs.Keys.{order, sameList}
 use Rattle.keys.proofs.Orders.{sameList-refl}
 use Rattle.paper.specs.Lists.{ins, all, pairs, sum, differ}
 use Rattle.paper.specs.Page.{Row, Numbers, View, keyOf}
@@ -20,6 +21,9 @@ use Rattle.paper.specs.Views.{refreshed, rowFor, insertView}
 use Rattle.paper.proofs.Lists.{both-parts, both-yes, all-ins, pairs-ins, sum-ins, ins-append, map-ins, all-weaken}
 use Rattle.paper.proofs.Sorted.{spot, upTo-le, rising-ins}
 use Rattle.paper.proofs.Fit.{within-fact, fact-within, Rules, Fit, apart-sym, new-apart, effective-is, effective-used}
+
+eqb-refl : (n : ℕ) → eqb n n ≡ true
+eqb-refl n = eq-eqb n n refl
 
 -- hints that were refreshed are fresh
 pub refreshed-fresh : (b : Bool) (h old : List ℕ) → pick b (sameList (pick b h old) h) true ≡ true
@@ -74,7 +78,7 @@ module _ (w : ℕ) (N : View) (s : List ℕ) (v : ℕ) (F : Fit w N) (G : Goes w
 
   new-faithful : faithful (r .slot) (r .suffix) ≡ true
   unfolding faithful rowFor slotFor
-  new-faithful = eq-eqb (headOf s) (headOf s) refl
+  new-faithful = rw eqb-refl
 
   new-key : keyOf (N .frame) r ≡ k
   unfolding rowFor

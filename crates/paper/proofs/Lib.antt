@@ -18,3 +18,6 @@ pub mod Meeting
 pub mod Searching
 pub mod AnyOrder
 pub mod Demand
+pub mod Table
+pub mod Bench
+pub mod CallNumbers

@@ -243,24 +243,18 @@ module _ (p : List ℕ) (size : length p ≡ 16384) (bytes : IsBytes p) where
       tab-ext 8 (λ j. slotOf p ((j + 1) * window n) .head) (λ j. headAt (rowsOf w p n) ((j + 1) * window n))
       (λ j l. sym (headAt-rows w p n ((j + 1) * window n) (hint-slot n j h l)))
 
+-- what both arms have
+either : (P : List ℕ → Type 0) (b : Bool) (x y : List ℕ) → P x → P y → P (pick b x y)
+either P true x y h k = h
+either P false x y h k = k
+
 pub length-refresh : (p : List ℕ) → length (refresh p) ≡ length p
 unfolding refresh
-length-refresh p = go (inUse (frameOf p .flag) (numbersOf p .count))
-  where
-    go : (b : Bool) → length (pick b (put p 64 (flat (fresh (numbersOf p .count) (λ i. slotOf p i .head)))) p) ≡ length p
-    go true = length-put p 64 (flat (fresh (numbersOf p .count) (λ i. slotOf p i .head)))
-    go false = refl
+length-refresh p = either (λ q. length q ≡ length p) (inUse (frameOf p .flag) (numbersOf p .count)) _ p (length-put p _ _) refl
 
 pub refresh-bytes : (p : List ℕ) → IsBytes p → IsBytes (refresh p)
 unfolding refresh
-refresh-bytes p h = go (inUse (frameOf p .flag) (numbersOf p .count))
-  where
-    hs : List ℕ
-    hs = flat (fresh (numbersOf p .count) (λ i. slotOf p i .head))
-
-    go : (b : Bool) → IsBytes (pick b (put p 64 (flat (fresh (numbersOf p .count) (λ i. slotOf p i .head)))) p)
-    go true = put-bytes p 64 hs h (flat-bytes (fresh (numbersOf p .count) (λ i. slotOf p i .head)))
-    go false = h
+refresh-bytes p h = either IsBytes (inUse (frameOf p .flag) (numbersOf p .count)) _ p (put-bytes p _ _ h (flat-bytes _)) h
 
 -- the page then reads as it did, but for the hints
 module _ (w : ℕ) (p : List ℕ) (size : length p ≡ 16384) (bytes : IsBytes p) (most : frameOf p .prefixLen ≤ 16256) where

@@ -223,8 +223,11 @@ runPage w p q a n = judge (runChecks w p q a n) (runCopied w p (run w q a n)) (�
 abbrev pub probeChecks : ℕ → List ℕ → List ℕ → List Check
 probeChecks w p k = pageLength p ∷ widthKnown w ∷ keyLength k ∷ rulesHold p ∷ []
 
+abbrev pub findChecks : ℕ → List ℕ → List ℕ → List Check
+findChecks w p k = probeChecks w p k ++ prefixHeld p k ∷ []
+
 unfoldable pub findOf : ℕ → List ℕ → List ℕ → Found
-findOf w p k = judge (probeChecks w p k ++ prefixHeld p k ∷ []) (findAt w p k (bound false w p k)) Found·Refused
+findOf w p k = judge (findChecks w p k) (findAt w p k (bound false w p k)) Found·Refused
 
 -- ---- lower (u false) and upper (u true) bound 1, 2, 3, 4, 14
 unfoldable pub boundOf : Bool → ℕ → List ℕ → List ℕ → Bound
@@ -235,13 +238,18 @@ unfoldable pub compared : Met → Compared
 compared (Met·Is o) = Sign (signOf o)
 compared (Met·Refused r) = Compared·Refused r
 
+abbrev pub compareChecks : ℕ → List ℕ → ℕ → List ℕ → List Check
+compareChecks w p i k = probeChecks w p k ++ slotThere p i ∷ []
+
 unfoldable pub compareOf : ℕ → List ℕ → ℕ → List ℕ → Compared
-compareOf w p i k = judge (probeChecks w p k ++ slotThere p i ∷ []) (compared (slotOrder w p k i)) Compared·Refused
+compareOf w p i k = judge (compareChecks w p i k) (compared (slotOrder w p k i)) Compared·Refused
 
 -- ---- child number (width 8, any height) 1, 3, 5, 8, 9
+abbrev pub childChecks : List ℕ → List ℕ → List Check
+childChecks p k = pageLength p ∷ keyLength k ∷ isFit 8 p ∷ prefixHeld p k ∷ insideFences p k ∷ []
+
 unfoldable pub childOf : List ℕ → List ℕ → Child
-childOf p k =
-    judge (pageLength p ∷ keyLength k ∷ isFit 8 p ∷ prefixHeld p k ∷ insideFences p k ∷ []) (childScan (frameOf p .lowerValue) k (listing 8 p)) Child·Refused
+childOf p k = judge (childChecks p k) (childScan (frameOf p .lowerValue) k (listing 8 p)) Child·Refused
 
 -- ---- entry 1, 2, 4, 10, 14
 abbrev pub entryTests : ℕ → List ℕ → ℕ → List Check
@@ -266,29 +274,39 @@ unfoldable pub copyBuffer : ℕ → List ℕ → ℕ → List ℕ → List ℕ
 copyBuffer w p i out = judge (copyChecks w p i out) (put out 0 (keyAt p (slotOf p i))) (λ r. out)
 
 -- ---- trailing id 1, 2, 4, 10, 14, 16: "the key's last 8 bytes, big-endian"
+abbrev pub trailingChecks : ℕ → List ℕ → ℕ → List Check
+trailingChecks w p i = entryTests w p i ++ check (leb 8 (length (keyAt p (slotOf p i)))) ShortKey ∷ []
+
 unfoldable pub trailingOf : ℕ → List ℕ → ℕ → Trailing
-trailingOf w p i =
-    let k = keyAt p (slotOf p i) in
-    judge (entryTests w p i ++ check (leb 8 (length k)) ShortKey ∷ []) (Id (be 8 k (length k - 8))) Trailing·Refused
+trailingOf w p i = let k = keyAt p (slotOf p i) in judge (trailingChecks w p i) (Id (be 8 k (length k - 8))) Trailing·Refused
 
 -- ---- space numbers "1, 4, and 5 (with 8) where effective exceeds used"
+abbrev pub spaceChecks : List ℕ → List Check
+spaceChecks p = pageLength p ∷ rulesHold p ∷ check (leb (numbersOf p .effective) (used (numbersOf p))) (NotFit 8) ∷ []
+
 unfoldable pub spaceRead : List ℕ → SpaceRead
-spaceRead p =
-    let n = numbersOf p in
-    judge (pageLength p ∷ rulesHold p ∷ check (leb (n .effective) (used n)) (NotFit 8) ∷ []) (Space·Are (spaceOf n)) Space·Refused
+spaceRead p = judge (spaceChecks p) (Space·Are (spaceOf (numbersOf p))) Space·Refused
 
 -- ---- need of an entry 2, 3, 8, "from a key and a prefix length (8: key shorter)"
+abbrev pub needChecks : ℕ → ℕ → List ℕ → List Check
+needChecks w n k = widthKnown w ∷ keyLength k ∷ check (leb n (length k)) Prefix ∷ []
+
 unfoldable pub needOf : ℕ → ℕ → List ℕ → Needed
-needOf w n k = judge (widthKnown w ∷ keyLength k ∷ check (leb n (length k)) Prefix ∷ []) (Needed·Bytes (need w (length k - n))) Needed·Refused
+needOf w n k = judge (needChecks w n k) (Needed·Bytes (need w (length k - n))) Needed·Refused
 
 -- ---- forecast from two fences 3: "common prefix length, and 96 plus the body bytes of prefix and fences"
+abbrev pub forecastChecks : List ℕ → List ℕ → List Check
+forecastChecks lower upper = keyLength lower ∷ keyLength upper ∷ []
+
 unfoldable pub forecastOf : List ℕ → List ℕ → Forecast
-forecastOf lower upper =
-    judge (keyLength lower ∷ keyLength upper ∷ []) (Forecast·Are (common lower upper) (96 + beginBytes lower upper)) Forecast·Refused
+forecastOf lower upper = judge (forecastChecks lower upper) (Forecast·Are (common lower upper) (96 + beginBytes lower upper)) Forecast·Refused
 
 -- ---- layout and fit verdict 1, 2
+abbrev pub verdictChecks : ℕ → List ℕ → List Check
+verdictChecks w p = pageLength p ∷ widthKnown w ∷ []
+
 unfoldable pub layoutVerdict : ℕ → List ℕ → Verdict
-layoutVerdict w p = judge (pageLength p ∷ widthKnown w ∷ []) (Verdict·Is (pick (layoutOf w p) 1 0)) Verdict·Refused
+layoutVerdict w p = judge (verdictChecks w p) (Verdict·Is (pick (layoutOf w p) 1 0)) Verdict·Refused
 
 unfoldable pub fitVerdict : ℕ → List ℕ → Verdict
-fitVerdict w p = judge (pageLength p ∷ widthKnown w ∷ []) (Verdict·Is (fitOf w p)) Verdict·Refused
+fitVerdict w p = judge (verdictChecks w p) (Verdict·Is (fitOf w p)) Verdict·Refused
