@@ -1,5 +1,5 @@
 -- A choice by a test.
-use mathlib.Core.Bool.{Bool, true, false}
+use mathlib.Core.Bool.{Bool, true, false, _&&_}
 
 -- the first where the test is true, the second where it is not
 abbrev pub pick {ℓ} : {A : Type ℓ} → Bool → A → A → A
@@ -8,5 +8,4 @@ pick false a b = b
 
 -- both tests
 abbrev pub both : Bool → Bool → Bool
-both true b = b
-both false b = false
+both a b = a && b

@@ -135,7 +135,7 @@ pub record Filed (w : ℕ) (p : List ℕ) (es : List Entry) (q : List ℕ) : Typ
   pub effective : numbersOf q .effective ≡ numbersOf p .effective + needOfAll w p es
   pub hints : inUse (frameOf p .flag) (numbersOf q .count) ≡ false → hintsOf q ≡ hintsOf p
 
-not-used : (flag m n : ℕ) → m ≤ n → inUse flag n ≡ false → inUse flag m ≡ false
+pub not-used : (flag m n : ℕ) → m ≤ n → inUse flag n ≡ false → inUse flag m ≡ false
 unfolding inUse
 not-used flag m n h = go (eqb flag 1)
   where

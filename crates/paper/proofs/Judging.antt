@@ -1,7 +1,7 @@
--- Laws of judging a call: where all tests hold the answer is given, and a verdict of 0 says that its tests held. Assumes nothing.
+-- What a fit verdict of 0 says, and what gives it. Assumes nothing.
 use mathlib.Core.Path.{_≡_, refl}
 use mathlib.Core.Bool.{Bool, true, false}
-use mathlib.Core.List.{List, _∷_}
+use mathlib.Core.List.{List}
 use Prim.Native.Nat.{ℕ}
 use native.Mathlib.Omega.{arith}
 use borrow.Author.Tests.{eqb-true, eq-eqb}
@@ -9,25 +9,10 @@ use lib.Dec.{eqb}
 use lib.ListN.{length}
 use Rattle.keys.specs.Choice.{pick}
 use Rattle.paper.specs.Verdicts.{fitOf}
-use Rattle.paper.specs.Refusals.{Check, judge}
+use Rattle.paper.specs.Refusals.{judge}
 use Rattle.paper.specs.Calls.{isWidth, fitVerdict}
-use Rattle.paper.specs.declared.refusal.Refusal.{Refusal}
 use Rattle.paper.specs.declared.refusal.Refusal.the-variants.{PageLength, Width}
 use Rattle.paper.specs.declared.answers.Verdict.the-variants.{Is as Verdict·Is, Refused as Verdict·Refused}
-
--- a test more in front, that holds
-pub judge-holds : {A : Type 0} (c : Check) (cs : List Check) (a : A) (r : Refusal → A) → c .holds ≡ true → judge (c ∷ cs) a r ≡ judge cs a r
-unfolding judge
-judge-holds c cs a r e = rw e
-
--- and one that does not
-pub judge-fails : {A : Type 0} (c : Check) (cs : List Check) (a : A) (r : Refusal → A) → c .holds ≡ false → judge (c ∷ cs) a r ≡ r (c .refusal)
-unfolding judge
-judge-fails c cs a r e = rw e
-
--- the answer may be told apart only where the tests hold
-pub judge-cong : {A : Type 0} (cs : List Check) (a b : A) (r : Refusal → A) → a ≡ b → judge cs a r ≡ judge cs b r
-judge-cong cs a b r e = rw e
 
 pub size-test : (p : List ℕ) → length p ≡ 16384 → eqb (length p) 16384 ≡ true
 size-test p e = eq-eqb (length p) 16384 e

@@ -7,7 +7,7 @@ use Prim.Native.Nat.{ℕ, zero, suc, _+_, _≤_, _<_}
 use native.Mathlib.Omega.{arith}
 use lib.ListN.{length, take, drop, getD}
 use Rattle.keys.specs.Choice.{both}
-use Rattle.paper.specs.Lists.{every, tab, ins, swap, all, pairs, sum}
+use Rattle.paper.specs.Lists.{tab, ins, swap, all, pairs, sum}
 
 pub both-parts : (a b : Bool) → both a b ≡ true → (a ≡ true) × (b ≡ true)
 both-parts true b e = (refl, e)
@@ -119,18 +119,20 @@ module _ {A : Type 0} where
   all-append f [] m e g = g
   all-append f (x ∷ l) m e g = let b = both-parts (f x) (all f l) e in both-yes (f x) (all f (l ++ m)) (b .0) (all-append f l m (b .1) g)
 
+-- a test of two lists is the test of each
+pub all-parts : {A : Type 0} (f : A → Bool) (l m : List A) → all f (l ++ m) ≡ true → (all f l ≡ true) × (all f m ≡ true)
+unfolding all
+all-parts f [] m e = (refl, e)
+all-parts f (x ∷ l) m e =
+    let b = both-parts (f x) (all f (l ++ m)) e in
+    let c = all-parts f l m (b .1) in
+    (both-yes (f x) (all f l) (b .0) (c .0), c .1)
+
 pub tab-lt : (b : ℕ) → 0 < b → (f : ℕ → ℕ) → ((j : ℕ) → f j < b) → (n j : ℕ) → getD (tab n f) j 0 < b
 unfolding tab
 tab-lt b z f h zero j = z
 tab-lt b z f h (suc n) zero = h 0
 tab-lt b z f h (suc n) (suc j) = tab-lt b z (λ k. f (suc k)) (λ k. h (suc k)) n j
-
--- ---- every test of a list of tests
-pub every-at : (bs : List Bool) → every bs ≡ true → (i : ℕ) → i < length bs → getD bs i false ≡ true
-unfolding every
-every-at [] e i h = absurd (omega arith)
-every-at (b ∷ bs) e zero h = both-parts b (every bs) e .0
-every-at (b ∷ bs) e (suc i) h = every-at bs (both-parts b (every bs) e .1) i (omega arith)
 
 module _ {A : Type 0} where
   -- pairs by their places, for loops that go by index
@@ -150,12 +152,6 @@ module _ {A : Type 0} where
 
 -- ---- an element in another's place
 module _ {A : Type 0} where
-  pub length-swap : (i : ℕ) (x : A) (l : List A) → length (swap i x l) ≡ length l
-  unfolding swap
-  length-swap i x [] = refl
-  length-swap zero x (y ∷ l) = refl
-  length-swap (suc i) x (y ∷ l) = ap suc (length-swap i x l)
-
   pub map-swap : {B : Type 0} (g : A → B) (i : ℕ) (x : A) (l : List A) → map g (swap i x l) ≡ swap i (g x) (map g l)
   unfolding swap
   map-swap g i x [] = refl

@@ -1,5 +1,5 @@
 -- Two pages whose bytes from a up to b are the same: every number, part, slot, suffix and row that lies there is the same. Assumes nothing.
-use mathlib.Core.Path.{_≡_, _∙_}
+use mathlib.Core.Path.{_≡_}
 use mathlib.Core.List.{List}
 use Prim.Native.Nat.{ℕ, _+_, _*_, _≤_, _<_}
 use native.Mathlib.Decide.{decLe, decLt}
@@ -35,9 +35,6 @@ unfolding bodyBytes
 le-bodyBytes m n = elim (decLe n m) [ yes h ↦ rw (le-leb n m h) (omega arith) | no h ↦ rw (lt-leb n m (omega arith)) (omega arith) ]
 
 -- ---- ranges
-pub same-trans : (p q r : List ℕ) (a b : ℕ) → Same p q a b → Same q r a b → Same p r a b
-same-trans p q r a b h k j l m = h j l m ∙ k j l m
-
 -- two ranges side by side
 pub same-join : (p q : List ℕ) (a b c : ℕ) → Same p q a b → Same p q b c → Same p q a c
 same-join p q a b c h k j l m = elim (decLt j b) [ yes x ↦ h j l x | no x ↦ k j (omega arith) m ]

@@ -42,7 +42,7 @@ use Rattle.paper.proofs.HeaderBytes.{entries-faithful, hints-fresh}
 use Rattle.paper.proofs.Halving.{halving-to, upTo-before, upTo-after, passed-below, passed-above, passed-falls, firstHint-le, firstHint-before, firstHint-here}
 use Rattle.paper.proofs.Meeting.{slot-meets, by-class}
 
-getD-any : {A : Type 0} (l : List A) (i : ℕ) (d e : A) → i < length l → getD l i d ≡ getD l i e
+pub getD-any : {A : Type 0} (l : List A) (i : ℕ) (d e : A) → i < length l → getD l i d ≡ getD l i e
 getD-any [] i d e h = absurd (omega arith)
 getD-any (x ∷ l) zero d e h = refl
 getD-any (x ∷ l) (suc i) d e h = getD-any l i d e (omega arith)
@@ -88,7 +88,7 @@ module _ (w : ℕ) (p : List ℕ) (size : length p ≡ 16384) (b : IsBytes p) (F
       both-yes (leb (numbersOf p .end) (slotPayload w (slotOf p i) .lo)) (leb (slotPayload w (slotOf p i) .hi) 16256)
       (le-leb (numbersOf p .end) (slotPayload w (slotOf p i) .lo) (x .0)) (le-leb (slotPayload w (slotOf p i) .hi) 16256 (x .1))
 
-  length-at : (i : ℕ) → i < n → slotOf p i .len ≡ length (S i)
+  pub length-at : (i : ℕ) → i < n → slotOf p i .len ≡ length (S i)
   unfolding suffixOf
   length-at i h = go (decLe (slotOf p i .len) 4)
     where
@@ -102,7 +102,7 @@ module _ (w : ℕ) (p : List ℕ) (size : length p ≡ 16384) (b : IsBytes p) (F
           rw (lt-leb (slotOf p i .len) 4 (omega arith))
           (sym (length-part-le (slotOf p i .len) p (96 + slotOf p i .offset) (omega (arith, bodyBytes-long 4 (slotOf p i .len) (omega arith)))))
 
-  bytes-at : (i : ℕ) → IsBytes (S i)
+  pub bytes-at : (i : ℕ) → IsBytes (S i)
   unfolding suffixOf
   bytes-at i = go (leb (slotOf p i .len) 4)
     where
@@ -137,7 +137,7 @@ module _ (w : ℕ) (p : List ℕ) (size : length p ≡ 16384) (b : IsBytes p) (F
           ∙ List·getD-map (keyOf (frameOf p)) (tab n f) i (f i)
           ∙ ap (keyOf (frameOf p)) (getD-tab n f i (f i) h)
 
-  length-keys : length (keys (listing w p)) ≡ n
+  pub length-keys : length (keys (listing w p)) ≡ n
   length-keys = length-map (listing w p) (λ (e : Entry). e .key) ∙ length-listing w p
 
   pub rises : rising (keys (listing w p)) ≡ true

@@ -12,7 +12,7 @@ use Rattle.keys.specs.Keys.{order, flip, common}
 use Rattle.keys.specs.declared.order.Order.{Order}
 use Rattle.keys.specs.declared.order.Order.the-variants.{Below, Same, Above}
 use Rattle.keys.proofs.Numbers.{below-above}
-use Rattle.keys.proofs.Orders.{order-refl, order-flip, order-same, order-trans, order-append, order-above}
+use Rattle.keys.proofs.Orders.{order-refl, order-flip, order-same, order-trans, order-above}
 use Rattle.keys.proofs.Prefixes.{common-append, common-take}
 use Rattle.keys.proofs.Between.{nearer-above}
 use Rattle.paper.specs.Lists.{ins, all, upTo, isBelow, less, differ, belowFirst, rising}
@@ -52,11 +52,6 @@ less-flip a b e = rw (order-flip a b, less-order a b e)
 pub less-self : (a : List ℕ) → less a a ≡ false
 unfolding less isBelow
 less-self a = rw (order-refl a)
-
--- keys with one front compare as the rest does
-pub less-append : (p a b : List ℕ) → less (p ++ a) (p ++ b) ≡ less a b
-unfolding less
-less-append p a b = rw (order-append p a b)
 
 pub differ-up : (a b : List ℕ) → differ a b ≡ true → less a b ≡ false → less b a ≡ true
 unfolding differ

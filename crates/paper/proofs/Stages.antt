@@ -38,7 +38,7 @@ pub record Placed (w : ℕ) (p : List ℕ) (e n : ℕ) : Type 0 where
 -- ---- frames
 -- the frame is the same where the header's other fields, the prefix and the fences' suffixes are
 module _ (q p : List ℕ) (l : length q ≡ length p) (a : Same q p 0 2) (b : Same q p 8 40) (c : Same q p 44 64) where
-  frame-parts : prefixOf q (frameOf p .prefixLen) ≡ prefixOf p (frameOf p .prefixLen) → ((s : Slot) → (s ≡ frameOf p .lower) ⊎ (s ≡ frameOf p .upper) → suffixOf q s ≡ suffixOf p s)
+  pub frame-parts : prefixOf q (frameOf p .prefixLen) ≡ prefixOf p (frameOf p .prefixLen) → ((s : Slot) → (s ≡ frameOf p .lower) ⊎ (s ≡ frameOf p .upper) → suffixOf q s ≡ suffixOf p s)
       → frameOf q ≡ frameOf p
   unfolding frameOf
   frame-parts pre suffix =
