@@ -4,28 +4,29 @@ use mathlib.Core.Path.{_≡_, refl}
 use mathlib.Core.Bool.{true, false}
 use mathlib.Core.List.{List, [], _∷_}
 use mathlib.Core.List.List·Permᴰ.{List·Permᴰ·swap}
-use Prim.Native.Nat.{ℕ, zero, suc}
+use Prim.Native.Nat.{ℕ, zero, suc, _≤_}
 use native.Mathlib.Omega.{arith}
 use borrow.Author.Tests.{ltb-true}
 use lib.Dec.{ltb}
 use lib.ListN.{replicate, getD}
 use Rattle.octets.specs.Bytes.{IsBytes, le, be, part, bytes, bigBytes, put}
-use Rattle.keys.specs.Keys.{byNumber, order, flip, headOf, meets, common, sameList}
-use Rattle.paper.specs.Lists.{every, tab, ins, swap, all, pairs, sum, upTo, isBelow, less, differ, belowFirst, rising}
-use Rattle.paper.specs.Page.{slotOf, prefixOf, suffixOf, bodyBytes, rowOf, frameOf, numbersOf, headerOf, hintsOf, viewOf}
-use Rattle.paper.specs.Space.{need, spaceOf, fenceBytes, beginBytes}
-use Rattle.paper.specs.Hints.{inUse, fresh, flat, refresh, firstHint, windowLow, windowHigh}
+use Rattle.keys.specs.Keys.{byNumber, order, headOf, common, sameList}
+use Rattle.paper.specs.Lists.{every, tab, ins, all, pairs, sum, upTo, isBelow, less, differ, belowFirst, rising}
+use Rattle.paper.specs.Page.{slotOf, prefixOf, suffixOf, bodyBytes, rowOf, frameOf, numbersOf, hintsOf, viewOf}
+use Rattle.paper.specs.Space.{free, need, fenceBytes, beginBytes}
+use Rattle.paper.specs.Hints.{inUse, fresh, flat, refresh}
 use Rattle.paper.specs.Verdicts.{payload, fencePiece, prefixPiece, within, apart, longWithin, headerRules, upperEmpty, inside, faithful, headAt, u2, u3, u4, u5, u6, u7, u8, u9, firstBroken, fitView, fitOf, emptyLeaf, fencesRise, layoutView, layoutOf}
-use Rattle.paper.specs.Listing.{listing, file, fileAll}
-use Rattle.paper.specs.Refusals.{numberOf, carriedBy, judge}
-use Rattle.paper.specs.Edits.{putAll, slotBytes, numberFields, fenceSlot, fencesPlaced, beginFields, begun, slotFor, loaded, slotIn, slotted, more, numbered, inserted, valueSet, outgrows, keyPlace, rekeyed, keyPut, keyChanged, appended, runCopied}
-use Rattle.paper.specs.Searches.{slotMeets, visit, classOf, byClass, slotOrder, signOf, halving, passed, turn, boundIn, boundBy, bound, tested, findAt, findScan, childAt, childScan}
-use Rattle.paper.specs.Calls.{isWidth, fitsWidth, hasPrefix, beginChecks, beginOf, beginPage, insertChecks, insertOf, insertPage, storedValue, setChecks, setOf, setPage, between, roomForKey, changeChecks, changeOf, changePage, entryChecks, aboveLast, needOfAll, runChecks, runOf, runPage, findOf, boundOf, compared, compareOf, childOf, readEntry, keyAt, copyChecks, copyOf, copyBuffer, trailingOf, spaceRead, needOf, forecastOf, layoutVerdict, fitVerdict}
-use Rattle.paper.specs.Demand.{pageAfter, isAccepted, allAccepted}
-use Rattle.paper.specs.Printed.{decimalIn, decimal, hexDigit, hexBytes, hexKey, numberWords, verdictLine, spaceLine, entryLine, entryLines, pageText, refusedLine, printed}
+use Rattle.paper.specs.Listing.{listing, keys, fileAll}
+use Rattle.paper.specs.Refusals.{judge}
+use Rattle.paper.specs.Edits.{putAll, slotBytes, numberFields, fenceSlot, fencesPlaced, beginFields, begun, slotFor, loaded, slotIn, slotted, more, numbered, inserted}
+use Rattle.paper.specs.Searches.{passed}
+use Rattle.paper.specs.Calls.{isWidth, fitsWidth, hasPrefix, beginChecks, beginPage, insertChecks, insertPage, needOfAll, fitVerdict}
+use Rattle.paper.specs.Demand.{pageAfter}
+use Rattle.paper.specs.Printed.{decimalIn, decimal, hexDigit, hexBytes, hexKey, numberWords, verdictLine, spaceLine, entryLine, entryLines, pageText, printed}
 use Rattle.paper.specs.Listing.{Entry}
 use Rattle.paper.specs.Edits.{Begin}
 use Rattle.paper.specs.Demand.{Given, Demanded}
+use Rattle.paper.specs.declared.answers.Verdict.the-variants.{Is as Verdict·Is}
 use Rattle.paper.proofs.Lists.{both-parts}
 use Rattle.paper.proofs.Demand.{demand3}
 
@@ -58,9 +59,24 @@ text =
     ∷ 49 ∷ 32 ∷ 55 ∷ 48 ∷ 54 ∷ 49 ∷ 55 ∷ 50 ∷ 54 ∷ 51 ∷ 54 ∷ 53 ∷ 54 ∷ 99 ∷ 32 ∷ 50 ∷ 10
     ∷ []
 
+-- what is computed: the text, and the premises of demand 3 for the two records
+record Computed : Type 0 where
+  printed-text : printed (8 ∷ page) ≡ text
+  page-bytes : all (λ x. ltb x 256) started ≡ true
+  fit : fitVerdict 8 started ≡ Verdict·Is 0
+  different : pairs (λ (x y : Entry). differ (x .key) (y .key)) (a ∷ parcel ∷ []) ≡ true
+  absent : all (λ (e : Entry). all (differ (e .key)) (keys (listing 8 started))) (a ∷ parcel ∷ []) ≡ true
+  fenced : all (λ (e : Entry). inside (frameOf started) (e .key)) (a ∷ parcel ∷ []) ≡ true
+  values : all (λ (e : Entry). fitsWidth 8 (e .value)) (a ∷ parcel ∷ []) ≡ true
+  room : needOfAll 8 started (a ∷ parcel ∷ []) ≤ free (numbersOf started)
+
+computed : Computed
+unfolding page started le part bytes bigBytes put byNumber order headOf common sameList every tab ins all pairs sum upTo isBelow less differ belowFirst rising slotOf prefixOf suffixOf bodyBytes rowOf frameOf numbersOf hintsOf viewOf need fenceBytes beginBytes inUse fresh flat refresh payload fencePiece prefixPiece within apart longWithin headerRules upperEmpty inside faithful headAt u2 u3 u4 u5 u6 u7 u8 u9 firstBroken fitView fitOf emptyLeaf fencesRise layoutView layoutOf listing judge putAll slotBytes numberFields fenceSlot fencesPlaced beginFields begun slotFor loaded slotIn slotted more numbered inserted passed isWidth fitsWidth hasPrefix beginChecks beginPage insertChecks insertPage needOfAll fitVerdict pageAfter decimalIn decimal hexDigit hexBytes hexKey numberWords verdictLine spaceLine entryLine entryLines pageText printed text be
+computed =
+    record { printed-text = refl; page-bytes = refl; fit = refl; different = refl; absent = refl; fenced = refl; values = refl; room = omega arith }
+
 pub bench-page : printed (8 ∷ page) ≡ text
-unfolding page started le be part bytes bigBytes put byNumber order flip headOf meets common sameList every tab ins swap all pairs sum upTo isBelow less differ belowFirst rising slotOf prefixOf suffixOf bodyBytes rowOf frameOf numbersOf headerOf hintsOf viewOf need spaceOf fenceBytes beginBytes inUse fresh flat refresh firstHint windowLow windowHigh payload fencePiece prefixPiece within apart longWithin headerRules upperEmpty inside faithful headAt u2 u3 u4 u5 u6 u7 u8 u9 firstBroken fitView fitOf emptyLeaf fencesRise layoutView layoutOf listing file fileAll numberOf carriedBy judge putAll slotBytes numberFields fenceSlot fencesPlaced beginFields begun slotFor loaded slotIn slotted more numbered inserted valueSet outgrows keyPlace rekeyed keyPut keyChanged appended runCopied slotMeets visit classOf byClass slotOrder signOf halving passed turn boundIn boundBy bound tested findAt findScan childAt childScan isWidth fitsWidth hasPrefix beginChecks beginOf beginPage insertChecks insertOf insertPage storedValue setChecks setOf setPage between roomForKey changeChecks changeOf changePage entryChecks aboveLast needOfAll runChecks runOf runPage findOf boundOf compared compareOf childOf readEntry keyAt copyChecks copyOf copyBuffer trailingOf spaceRead needOf forecastOf layoutVerdict fitVerdict pageAfter isAccepted allAccepted decimalIn decimal hexDigit hexBytes hexKey numberWords verdictLine spaceLine entryLine entryLines pageText refusedLine printed text
-bench-page = refl
+bench-page = computed .printed-text
 
 -- ---- demand 3 on that page
 bytes-of : (l : List ℕ) → all (λ x. ltb x 256) l ≡ true → IsBytes l
@@ -69,10 +85,6 @@ bytes-of [] e i = omega arith
 bytes-of (x ∷ l) e zero = ltb-true x 256 (both-parts (ltb x 256) (all (λ y. ltb y 256) l) e .0)
 bytes-of (x ∷ l) e (suc i) = bytes-of l (both-parts (ltb x 256) (all (λ y. ltb y 256) l) e .1) i
 
-started-bytes : all (λ x. ltb x 256) started ≡ true
-unfolding page started le be part bytes bigBytes put byNumber order flip headOf meets common sameList every tab ins swap all pairs sum upTo isBelow less differ belowFirst rising slotOf prefixOf suffixOf bodyBytes rowOf frameOf numbersOf headerOf hintsOf viewOf need spaceOf fenceBytes beginBytes inUse fresh flat refresh firstHint windowLow windowHigh payload fencePiece prefixPiece within apart longWithin headerRules upperEmpty inside faithful headAt u2 u3 u4 u5 u6 u7 u8 u9 firstBroken fitView fitOf emptyLeaf fencesRise layoutView layoutOf listing file fileAll numberOf carriedBy judge putAll slotBytes numberFields fenceSlot fencesPlaced beginFields begun slotFor loaded slotIn slotted more numbered inserted valueSet outgrows keyPlace rekeyed keyPut keyChanged appended runCopied slotMeets visit classOf byClass slotOrder signOf halving passed turn boundIn boundBy bound tested findAt findScan childAt childScan isWidth fitsWidth hasPrefix beginChecks beginOf beginPage insertChecks insertOf insertPage storedValue setChecks setOf setPage between roomForKey changeChecks changeOf changePage entryChecks aboveLast needOfAll runChecks runOf runPage findOf boundOf compared compareOf childOf readEntry keyAt copyChecks copyOf copyBuffer trailingOf spaceRead needOf forecastOf layoutVerdict fitVerdict pageAfter isAccepted allAccepted decimalIn decimal hexDigit hexBytes hexKey numberWords verdictLine spaceLine entryLine entryLines pageText refusedLine printed
-started-bytes = refl
-
 key-bytes : (i : ℕ) → IsBytes (getD (a ∷ parcel ∷ []) i (record { key = []; value = 0 }) .key)
 unfolding all
 key-bytes zero = bytes-of (a .key) refl
@@ -80,17 +92,17 @@ key-bytes (suc zero) = bytes-of (parcel .key) refl
 key-bytes (suc (suc i)) = λ k. omega arith
 
 given : Given 8 started (a ∷ parcel ∷ [])
-unfolding page started le be part bytes bigBytes put byNumber order flip headOf meets common sameList every tab ins swap all pairs sum upTo isBelow less differ belowFirst rising slotOf prefixOf suffixOf bodyBytes rowOf frameOf numbersOf headerOf hintsOf viewOf need spaceOf fenceBytes beginBytes inUse fresh flat refresh firstHint windowLow windowHigh payload fencePiece prefixPiece within apart longWithin headerRules upperEmpty inside faithful headAt u2 u3 u4 u5 u6 u7 u8 u9 firstBroken fitView fitOf emptyLeaf fencesRise layoutView layoutOf listing file fileAll numberOf carriedBy judge putAll slotBytes numberFields fenceSlot fencesPlaced beginFields begun slotFor loaded slotIn slotted more numbered inserted valueSet outgrows keyPlace rekeyed keyPut keyChanged appended runCopied slotMeets visit classOf byClass slotOrder signOf halving passed turn boundIn boundBy bound tested findAt findScan childAt childScan isWidth fitsWidth hasPrefix beginChecks beginOf beginPage insertChecks insertOf insertPage storedValue setChecks setOf setPage between roomForKey changeChecks changeOf changePage entryChecks aboveLast needOfAll runChecks runOf runPage findOf boundOf compared compareOf childOf readEntry keyAt copyChecks copyOf copyBuffer trailingOf spaceRead needOf forecastOf layoutVerdict fitVerdict pageAfter isAccepted allAccepted decimalIn decimal hexDigit hexBytes hexKey numberWords verdictLine spaceLine entryLine entryLines pageText refusedLine printed
 given =
+    let C = computed in
     record {
-      bytes = bytes-of started started-bytes;
-      fit = refl;
+      bytes = bytes-of started (C .page-bytes);
+      fit = C .fit;
       keyBytes = key-bytes;
-      different = refl;
-      absent = refl;
-      fenced = refl;
-      values = refl;
-      room = omega arith;
+      different = C .different;
+      absent = C .absent;
+      fenced = C .fenced;
+      values = C .values;
+      room = C .room;
     }
 
 -- filed the other way round

@@ -1,7 +1,7 @@
 -- A call whose tests all hold: the answer is given, and an answer that is no refusal says that they held. Assumes nothing.
-use mathlib.Core.Path.{_≡_, refl}
+use mathlib.Core.Path.{_≡_, refl, ap}
 use mathlib.Core.Bool.{Bool, true, false}
-use mathlib.Core.List.{List, [], _∷_}
+use mathlib.Core.List.{List, [], _∷_, _++_}
 use Prim.Native.Nat.{ℕ}
 use native.Mathlib.Omega.{arith}
 use Rattle.keys.specs.Choice.{pick, both}
@@ -36,3 +36,21 @@ hold-judge (c ∷ cs) a b r k e = go (c .holds) e (hold-judge cs a b r k)
 -- an edit that is done had all its tests hold
 pub done-holds : (cs : List Check) → judge cs Done Edited·Refused ≡ Done → Hold cs
 done-holds cs e = hold-judge cs Done Done Edited·Refused (λ f k. let z : _≡_ {A = ℕ} 0 1 = cc in omega arith) e
+
+-- a refusal passes on: a call with the same tests is refused alike; s tells refusals apart and gives no answer b
+pub refused-judge : {A B : Type 0} (cs : List Check) (b : B) (s : Refusal → B) (q : Refusal) → ((x : Refusal) → s x ≡ s q → x ≡ q) → (b ≡ s q → ⊥)
+    → judge cs b s ≡ s q → (a : A) (r : Refusal → A) → judge cs a r ≡ r q
+unfolding judge
+refused-judge {A} [] b s q i d e a r = absurd (d e)
+refused-judge {A} (c ∷ cs) b s q i d e a r = go (c .holds) e (refused-judge cs b s q i d)
+  where
+    go : (t : Bool) → pick t (judge cs b s) (s (c .refusal)) ≡ s q → (judge cs b s ≡ s q → (a : A) (r : Refusal → A) → judge cs a r ≡ r q)
+        → pick t (judge cs a r) (r (c .refusal)) ≡ r q
+    go true e next = next e a r
+    go false e next = ap r (i (c .refusal) e)
+
+-- tests one after the other
+pub judge-append : {A : Type 0} (cs ds : List Check) (a : A) (r : Refusal → A) → judge (cs ++ ds) a r ≡ judge cs (judge ds a r) r
+unfolding judge
+judge-append [] ds a r = refl
+judge-append (c ∷ cs) ds a r = rw (judge-append cs ds a r)
