@@ -1,0 +1,94 @@
+-- The judgements that every read begins with, case by case: what code knows at each answer, and what an answer says of the page. Assumes nothing.
+use mathlib.Core.Path.{_≡_, refl, sym, ap, _∙_}
+use mathlib.Core.Bool.{Bool, true, false}
+use mathlib.Core.List.{List, [], _∷_, _++_}
+use Prim.Native.Nat.{ℕ, _*_, _≤_, _<_}
+use native.Mathlib.Omega.{arith}
+use borrow.Author.Tests.{eqb-true, leb-true, le-ltb, lt-ltb}
+use lib.Dec.{leb, eqb}
+use lib.ListN.{length}
+use Rattle.keys.specs.Choice.{pick}
+use Rattle.paper.specs.Page.{slotAt, place, slotOf, frameOf, numbersOf, headerOf}
+use Rattle.paper.specs.Verdicts.{slotPayload, within, headerRules}
+use Rattle.paper.specs.Refusals.{Check, judge}
+use Rattle.paper.specs.Calls.{isWidth}
+use Rattle.paper.specs.declared.page.Slot.{Slot}
+use Rattle.paper.specs.declared.page.Header.{Header}
+use Rattle.paper.specs.declared.refusal.Refusal.{Refusal}
+use Rattle.paper.specs.declared.refusal.Refusal.the-variants.{PageLength, Width, KeyLength, HeaderRules, SlotNumber, Payload}
+use Rattle.paper.specs.Lists.{all}
+use Rattle.paper.proofs.Lists.{both-parts}
+use Rattle.paper.proofs.Fit.{Rules, rules}
+use Rattle.paper.proofs.Holding.{Hold, judge-hold, hold-judge, refused-judge}
+use Rattle.node.specs.Admit.{admitChecks, admitOf, slotChecks, slotReadOf}
+use Rattle.node.specs.declared.admit.Admitted.{Admitted}
+use Rattle.node.specs.declared.admit.Admitted.the-variants.{Is as Admitted·Is, Refused as Admitted·Refused}
+use Rattle.node.specs.declared.slots.SlotRead.{SlotRead}
+use Rattle.node.specs.declared.slots.SlotRead.the-variants.{Is as Slot·Is, Refused as Slot·Refused}
+
+-- ---- a page that is admitted
+-- what is known of it
+pub record Admission (w : ℕ) (p : List ℕ) (n : ℕ) (h : Header) : Type 0 where
+  pub header : h ≡ headerOf p
+  pub size : length p ≡ 16384
+  pub width : isWidth w ≡ true
+  pub keyLength : n ≤ 65535
+  pub rules : Rules (frameOf p) (numbersOf p)
+
+is-not : (h : Header) (q : Refusal) → Admitted·Is h ≡ Admitted·Refused q → ⊥
+is-not h q e = let z : _≡_ {A = ℕ} 0 1 = cc in omega arith
+
+refused-is : (x q : Refusal) → Admitted·Refused x ≡ Admitted·Refused q → x ≡ q
+refused-is x q e = cc
+
+module _ (w : ℕ) (p : List ℕ) (n : ℕ) where
+  holds : (h : Header) → admitOf w p n ≡ Admitted·Is h → Hold (admitChecks w p n)
+  unfolding admitOf
+  holds h e = hold-judge (admitChecks w p n) (Admitted·Is (headerOf p)) (Admitted·Is h) Admitted·Refused (λ q k. is-not h q (sym k)) e
+
+  pub admitted : (h : Header) → admitOf w p n ≡ Admitted·Is h → Admission w p n h
+  unfolding all
+  admitted h e =
+      let H = holds h e in
+      let a = both-parts (eqb (length p) 16384) _ H in
+      let b = both-parts (isWidth w) _ (a .1) in
+      let c = both-parts (leb n 65535) _ (b .1) in
+      let d = both-parts (headerRules (frameOf p) (numbersOf p)) _ (c .1) in
+      record {
+        header = same h e;
+        size = eqb-true (length p) 16384 (a .0);
+        width = b .0;
+        keyLength = leb-true n 65535 (c .0);
+        rules = rules (frameOf p) (numbersOf p) (d .0);
+      }
+    where
+      same : (h : Header) → admitOf w p n ≡ Admitted·Is h → h ≡ headerOf p
+      same h e = let f : admitOf w p n ≡ Admitted·Is (headerOf p) = unfold admitOf in judge-hold (admitChecks w p n) (Admitted·Is (headerOf p)) Admitted·Refused (holds h e) in cc
+
+  -- a call with these tests goes on
+  pub admitted-judge : (h : Header) → admitOf w p n ≡ Admitted·Is h → {A : Type 0} (a : A) (r : Refusal → A) → judge (admitChecks w p n) a r ≡ a
+  admitted-judge h e a r = judge-hold (admitChecks w p n) a r (holds h e)
+
+  -- or is refused alike
+  pub refused-admit : (q : Refusal) → admitOf w p n ≡ Admitted·Refused q → {A : Type 0} (a : A) (r : Refusal → A) → judge (admitChecks w p n) a r ≡ r q
+  unfolding admitOf
+  refused-admit q e a r = refused-judge (admitChecks w p n) (Admitted·Is (headerOf p)) Admitted·Refused q (λ x k. refused-is x q k) (is-not (headerOf p) q) e a r
+
+-- ---- a slot that is visited
+module _ (w : ℕ) (p : List ℕ) (count end i : ℕ) where
+  pub slot-none : count ≤ i → slotReadOf w p count end i ≡ Slot·Refused SlotNumber
+  unfolding slotReadOf judge
+  slot-none h = rw (le-ltb i count h)
+
+  read-is : (s : Slot) → s ≡ slotAt p (place i) → s ≡ slotOf p i
+  unfolding slotOf
+  read-is s e = e
+
+  -- s is what was read at its place
+  pub slot-out : (s : Slot) → i < count → s ≡ slotAt p (place i) → within end (slotPayload w s) ≡ false → slotReadOf w p count end i ≡ Slot·Refused Payload
+  unfolding slotReadOf judge
+  slot-out s h e f = rw (lt-ltb i count h, ← read-is s e, f)
+
+  pub slot-in : (s : Slot) → i < count → s ≡ slotAt p (place i) → within end (slotPayload w s) ≡ true → slotReadOf w p count end i ≡ Slot·Is s
+  unfolding slotReadOf judge
+  slot-in s h e f = rw (lt-ltb i count h, ← read-is s e, f)

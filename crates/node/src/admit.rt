@@ -1,0 +1,56 @@
+// The tests that every read begins with: the page's length, the width, the key's length, the header rules.
+ghost use mathlib.Core.Path.{_≡_};
+ghost use Rattle.paper.specs.Calls.{isWidth};
+ghost use Rattle.node.specs.Admit.{admitOf, whyNot};
+use crate::header;
+use paper::page::Header;
+use paper::refusal::Refusal;
+
+// The header of a page that may be read, or why it may not.
+pub enum Admitted {
+    Is(Header),
+    Refused(Refusal),
+}
+
+// Whether a width is 0, 1 or 8.
+pub fn known_width(width: u8) -> bool
+    ensures { λ r. ⌜ r ≡ isWidth width ⌝ }
+{
+    if width == 0 {
+        return true;
+    }
+    if width == 1 {
+        return true;
+    }
+    width == 8
+}
+
+// 1, 2, 3 and 4 in this order, for a call whose key has `key_len` bytes; else the header.
+pub fn admit(p: &[u8], width: u8, key_len: usize) -> Admitted
+    ensures { λ r. ⌜ r ≡ admitOf width (now (p .entry)) «key_len» ⌝ }
+{
+    if p.len() != 16384 {
+        return Admitted::Refused(Refusal::PageLength);
+    }
+    if !known_width(width) {
+        return Admitted::Refused(Refusal::Width);
+    }
+    if 65535 < key_len {
+        return Admitted::Refused(Refusal::KeyLength);
+    }
+    let h = header::read_header(p);
+    if !header::rules_hold(h) {
+        return Admitted::Refused(Refusal::HeaderRules);
+    }
+    Admitted::Is(h)
+}
+
+// The refusal of a page that was not admitted.
+pub fn why_not(a: Admitted) -> Refusal
+    ensures { λ r. ⌜ r ≡ whyNot a ⌝ }
+{
+    match a {
+        Admitted::Is(_) => Refusal::PageLength,
+        Admitted::Refused(r) => r,
+    }
+}
