@@ -1,29 +1,26 @@
 -- The judgements that every read begins with, case by case: what code knows at each answer, and what an answer says of the page. Assumes nothing.
-use mathlib.Core.Path.{_≡_, refl, sym, ap, _∙_}
-use mathlib.Core.Bool.{Bool, true, false}
-use mathlib.Core.List.{List, [], _∷_, _++_}
+use mathlib.Core.Path.{_≡_, sym, ap}
+use mathlib.Core.Bool.{true, false}
+use mathlib.Core.List.{List}
 use Prim.Native.Nat.{ℕ, _*_, _≤_, _<_}
 use native.Mathlib.Omega.{arith}
 use borrow.Author.Tests.{eqb-true, leb-true, le-ltb, lt-ltb}
 use lib.Dec.{leb, eqb}
 use lib.ListN.{length}
-use Rattle.keys.specs.Choice.{pick}
 use Rattle.paper.specs.Page.{slotAt, place, slotOf, frameOf, numbersOf, headerOf}
 use Rattle.paper.specs.Verdicts.{slotPayload, within, headerRules}
-use Rattle.paper.specs.Refusals.{Check, judge}
+use Rattle.paper.specs.Refusals.{judge}
 use Rattle.paper.specs.Calls.{isWidth}
 use Rattle.paper.specs.declared.page.Slot.{Slot}
 use Rattle.paper.specs.declared.page.Header.{Header}
 use Rattle.paper.specs.declared.refusal.Refusal.{Refusal}
-use Rattle.paper.specs.declared.refusal.Refusal.the-variants.{PageLength, Width, KeyLength, HeaderRules, SlotNumber, Payload}
+use Rattle.paper.specs.declared.refusal.Refusal.the-variants.{SlotNumber, Payload}
 use Rattle.paper.specs.Lists.{all}
 use Rattle.paper.proofs.Lists.{both-parts}
 use Rattle.paper.proofs.Fit.{Rules, rules}
 use Rattle.paper.proofs.Holding.{Hold, judge-hold, hold-judge, refused-judge}
 use Rattle.node.specs.Admit.{admitChecks, admitOf, slotChecks, slotReadOf}
-use Rattle.node.specs.declared.admit.Admitted.{Admitted}
 use Rattle.node.specs.declared.admit.Admitted.the-variants.{Is as Admitted·Is, Refused as Admitted·Refused}
-use Rattle.node.specs.declared.slots.SlotRead.{SlotRead}
 use Rattle.node.specs.declared.slots.SlotRead.the-variants.{Is as Slot·Is, Refused as Slot·Refused}
 
 -- ---- a page that is admitted
@@ -65,6 +62,22 @@ module _ (w : ℕ) (p : List ℕ) (n : ℕ) where
       same : (h : Header) → admitOf w p n ≡ Admitted·Is h → h ≡ headerOf p
       same h e = let f : admitOf w p n ≡ Admitted·Is (headerOf p) = unfold admitOf in judge-hold (admitChecks w p n) (Admitted·Is (headerOf p)) Admitted·Refused (holds h e) in cc
 
+  -- its numbers are the page's
+  pub count-is : (h : Header) → admitOf w p n ≡ Admitted·Is h → h .count ≡ numbersOf p .count
+  unfolding headerOf
+  count-is h e = ap (λ (k : Header). k .count) (admitted h e .header)
+
+  pub end-is : (h : Header) → admitOf w p n ≡ Admitted·Is h → h .end ≡ numbersOf p .end
+  unfolding headerOf
+  end-is h e = ap (λ (k : Header). k .end) (admitted h e .header)
+
+  -- and all its slots lie within it
+  pub slots-within : (h : Header) → admitOf w p n ≡ Admitted·Is h → (16384 ≤ length p) × (8 * h .count ≤ 16256)
+  slots-within h e =
+      let A = admitted h e in
+      let R = A .rules in
+      (omega (arith, A .size), omega (arith, count-is h e, R .start, R .order, R .top))
+
   -- a call with these tests goes on
   pub admitted-judge : (h : Header) → admitOf w p n ≡ Admitted·Is h → {A : Type 0} (a : A) (r : Refusal → A) → judge (admitChecks w p n) a r ≡ a
   admitted-judge h e a r = judge-hold (admitChecks w p n) a r (holds h e)
@@ -92,3 +105,25 @@ module _ (w : ℕ) (p : List ℕ) (count end i : ℕ) where
   pub slot-in : (s : Slot) → i < count → s ≡ slotAt p (place i) → within end (slotPayload w s) ≡ true → slotReadOf w p count end i ≡ Slot·Is s
   unfolding slotReadOf judge
   slot-in s h e f = rw (lt-ltb i count h, ← read-is s e, f)
+
+-- the slot that was read is the page's, and a call with these tests goes on or is refused alike
+slot-not : (s : Slot) (q : Refusal) → Slot·Is s ≡ Slot·Refused q → ⊥
+slot-not s q e = let z : _≡_ {A = ℕ} 0 1 = cc in omega arith
+
+slot-refused-is : (x q : Refusal) → Slot·Refused x ≡ Slot·Refused q → x ≡ q
+slot-refused-is x q e = cc
+
+module _ (w : ℕ) (p : List ℕ) (count end i : ℕ) where
+  slot-holds : (s : Slot) → slotReadOf w p count end i ≡ Slot·Is s → Hold (slotChecks w p count end i)
+  unfolding slotReadOf
+  slot-holds s e = hold-judge (slotChecks w p count end i) (Slot·Is (slotOf p i)) (Slot·Is s) Slot·Refused (λ q k. slot-not s q (sym k)) e
+
+  pub slot-is : (s : Slot) → slotReadOf w p count end i ≡ Slot·Is s → s ≡ slotOf p i
+  slot-is s e = let f : slotReadOf w p count end i ≡ Slot·Is (slotOf p i) = unfold slotReadOf in judge-hold (slotChecks w p count end i) (Slot·Is (slotOf p i)) Slot·Refused (slot-holds s e) in cc
+
+  pub slot-judge : (s : Slot) → slotReadOf w p count end i ≡ Slot·Is s → {A : Type 0} (a : A) (r : Refusal → A) → judge (slotChecks w p count end i) a r ≡ a
+  slot-judge s e a r = judge-hold (slotChecks w p count end i) a r (slot-holds s e)
+
+  pub slot-refused : (q : Refusal) → slotReadOf w p count end i ≡ Slot·Refused q → {A : Type 0} (a : A) (r : Refusal → A) → judge (slotChecks w p count end i) a r ≡ r q
+  unfolding slotReadOf
+  slot-refused q e a r = refused-judge (slotChecks w p count end i) (Slot·Is (slotOf p i)) Slot·Refused q (λ x k. slot-refused-is x q k) (slot-not (slotOf p i) q) e a r

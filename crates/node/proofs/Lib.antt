@@ -1,2 +1,6 @@
 pub mod Rules
 pub mod Admits
+pub mod Entries
+pub mod Spelling
+pub mod Copies
+pub mod Spaces

@@ -1,6 +1,6 @@
 -- The header rules as code tests them: lengths that are long are counted whole, and a sum stands for a difference. Assumes nothing.
-use mathlib.Core.Path.{_≡_, refl, sym, ap, _∙_}
-use mathlib.Core.Bool.{Bool, true, false, _&&_}
+use mathlib.Core.Path.{_≡_, refl, sym, _∙_}
+use mathlib.Core.Bool.{true, _&&_}
 use Prim.Native.Nat.{ℕ, _+_, _-_, _≤_, _<_}
 use native.Mathlib.Decide.{decLe}
 use native.Mathlib.Omega.{arith}
@@ -11,8 +11,10 @@ use Rattle.keys.specs.Choice.{pick}
 use Rattle.paper.specs.Page.{frameOf, numbersOf, headerOf}
 use Rattle.paper.specs.Verdicts.{within, fencePiece, longWithin, headerRules}
 use Rattle.paper.specs.declared.page.Slot.{Slot}
+use Rattle.paper.specs.declared.page.Header.{Header}
 use Rattle.paper.proofs.Same.{bodyBytes-long}
-use Rattle.node.specs.Header.{rulesOf, prefixHeld}
+use Rattle.paper.proofs.Fit.{Rules, rules}
+use Rattle.node.specs.Header.{frameIn, numbersIn, rulesOf, prefixHeld}
 
 -- a test of a sum or a difference, whichever way it comes out
 leb-same : (a b c d : ℕ) → (a ≤ b → c ≤ d) → (c ≤ d → a ≤ b) → leb a b ≡ leb c d
@@ -49,3 +51,8 @@ prefix-long e n h = go (decLe n 16256)
 pub rules-of : (p : List ℕ) → rulesOf (headerOf p) ≡ headerRules (frameOf p) (numbersOf p)
 unfolding rulesOf headerOf headerRules
 rules-of p = refl
+
+-- ---- the rules of a header as facts
+pub rules-in : (h : Header) → rulesOf h ≡ true → Rules (frameIn h) (numbersIn h)
+unfolding rulesOf
+rules-in h e = rules (frameIn h) (numbersIn h) e

@@ -6,6 +6,7 @@ ghost use Rattle.paper.specs.Page.{bodyBytes};
 ghost use Rattle.paper.specs.Verdicts.{slotPayload, within};
 ghost use Rattle.node.specs.Admit.{slotReadOf, whyNoSlot};
 use crate::header;
+use crate::space;
 use paper::page::Slot;
 use paper::refusal::Refusal;
 
@@ -19,10 +20,7 @@ pub enum SlotRead {
 pub fn suffix_bytes(len: u16) -> usize
     ensures { λ r. ⌜ (r ≡ bodyBytes 4 len) × (r ≤ 65535) ⌝ }
 {
-    if len <= 4 {
-        return 0;
-    }
-    len as usize
+    space::body_bytes(4, len as usize)
 }
 
 // Whether the payload of a slot lies in end..16,256.

@@ -1,5 +1,4 @@
 -- Each answer is the case of the judgement that its tests picked: those before it held.
-use Prim.Native.Nat.{_-_}
 use borrow.Author.Needs.{needs}
 use borrow.Author.Tests.{le-leb, lt-leb, eq-eqb, ne-eqb}
 use borrow.Author.Tests.{not-true, not-false}

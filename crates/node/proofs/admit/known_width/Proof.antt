@@ -1,5 +1,4 @@
 -- Each answer is the case of `isWidth` that its tests picked.
-use Prim.Native.Nat.{_-_}
 use borrow.Author.Tests.{eq-eqb, ne-eqb}
 use Rattle.paper.specs.Calls.{isWidth}
 use Rattle.node.proofs.admit.known_width.Statement.{statement}

@@ -1,5 +1,4 @@
 -- Each arm answers the case of `whyNot` that it is.
-use Prim.Native.Nat.{_-_}
 use borrow.Author.Needs.{needs}
 use Rattle.node.specs.Admit.{whyNot}
 use Rattle.node.proofs.admit.why_not.Statement.{statement}

@@ -1,6 +1,5 @@
 -- A short fence is held anyhow, and a long one is counted whole.
 use mathlib.Core.Path.{sym}
-use Prim.Native.Nat.{_-_}
 use borrow.Author.Needs.{needs}
 use Rattle.node.proofs.Rules.{fence-short, fence-long}
 use Rattle.node.proofs.header.long_within.Statement.{statement}

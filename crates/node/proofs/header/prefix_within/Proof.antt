@@ -1,6 +1,5 @@
 -- An inline prefix is held anyhow, and of a long one the sum tells.
 use mathlib.Core.Path.{sym}
-use Prim.Native.Nat.{_-_}
 use borrow.Author.Needs.{needs}
 use Rattle.node.proofs.Rules.{prefix-inline, prefix-long}
 use Rattle.node.proofs.header.prefix_within.Statement.{statement}

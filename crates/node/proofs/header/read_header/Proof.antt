@@ -1,5 +1,4 @@
 -- Each field is the number at its place.
-use Prim.Native.Nat.{_-_}
 use borrow.Author.Needs.{needs}
 use Rattle.paper.specs.Page.{headerOf, frameOf, numbersOf}
 use Rattle.node.proofs.header.read_header.Statement.{statement}

@@ -1,5 +1,4 @@
 -- Three numbers at their places are the slot.
-use Prim.Native.Nat.{_-_}
 use borrow.Author.Needs.{needs}
 use Rattle.node.proofs.header.read_slot.Statement.{statement}
 use Rattle.node.proofs.header.read_slot.Tie as tie

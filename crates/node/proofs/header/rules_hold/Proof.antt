@@ -1,6 +1,5 @@
 -- The tests are the rules, in another grouping.
 use mathlib.Core.Bool.{and-assoc, and-true}
-use Prim.Native.Nat.{_-_}
 use borrow.Author.Needs.{needs}
 use Rattle.node.specs.Header.{rulesOf, prefixHeld}
 use Rattle.node.specs.Header.{rulesOf}

@@ -1,5 +1,4 @@
 -- The sums fit, and the test is `within`.
-use Prim.Native.Nat.{_-_}
 use native.Mathlib.Omega.{arith}
 use borrow.Author.Needs.{needs}
 use Rattle.paper.specs.Verdicts.{within}

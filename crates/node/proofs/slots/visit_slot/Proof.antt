@@ -1,13 +1,8 @@
 -- Each answer is the case of the judgement that its tests picked.
-use Prim.Native.Nat.{_-_}
 use borrow.Author.Needs.{needs}
-use borrow.Author.Tests.{lt-ltb, le-ltb}
 use borrow.Author.Tests.{not-true, not-false}
-use Rattle.node.specs.Admit.{slotReadOf}
 use Rattle.node.proofs.Admits.{slot-none, slot-out, slot-in}
 use mathlib.Core.Path.{sym, _∙_}
-use Rattle.paper.specs.Page.{slotOf}
-use Rattle.paper.specs.Refusals.{judge}
 use Rattle.node.proofs.slots.visit_slot.Statement.{statement}
 use Rattle.node.proofs.slots.visit_slot.Tie as tie
 

@@ -1,5 +1,4 @@
 -- Each arm answers the case of `whyNoSlot` that it is.
-use Prim.Native.Nat.{_-_}
 use borrow.Author.Needs.{needs}
 use Rattle.node.specs.Admit.{whyNoSlot}
 use Rattle.node.proofs.slots.why_no_slot.Statement.{statement}

@@ -1,0 +1,90 @@
+-- The key of an entry that may be read is prefix and suffix as the code finds them, and the copy's three ways out. Assumes nothing.
+use mathlib.Core.Path.{_≡_, refl, sym, ap, _∙_}
+use mathlib.Core.Bool.{Bool, true, false}
+use mathlib.Core.List.{List, [], _∷_, _++_}
+use Prim.Native.Nat.{ℕ, _+_, _≤_, _<_}
+use native.Mathlib.Decide.{decLe}
+use native.Mathlib.Omega.{arith}
+use borrow.Author.Tests.{le-leb, lt-leb}
+use lib.Dec.{leb}
+use lib.ListN.{length, length-append}
+use Rattle.octets.specs.Bytes.{put, bigBytes}
+use Rattle.octets.proofs.Part.{length-part-le}
+use Rattle.keys.specs.Choice.{pick}
+use Rattle.paper.specs.Page.{slotOf, frameOf, headerOf, prefixOf, suffixOf, bodyBytes}
+use Rattle.paper.specs.Refusals.{check, judge}
+use Rattle.paper.specs.Calls.{keyAt, copyChecks, copyOf, copyBuffer}
+use Rattle.paper.specs.declared.page.Slot.{Slot}
+use Rattle.paper.specs.declared.page.Header.{Header}
+use Rattle.paper.specs.declared.refusal.Refusal.{Refusal}
+use Rattle.paper.specs.declared.refusal.Refusal.the-variants.{BufferLength}
+use Rattle.paper.specs.declared.answers.Copied.the-variants.{Bytes as Copied·Bytes, Refused as Copied·Refused}
+use Rattle.paper.proofs.Same.{bodyBytes-long}
+use Rattle.node.specs.Admit.{openedOf}
+use Rattle.node.specs.declared.entry.Opened.the-variants.{Is as Opened·Is, Refused as Opened·Refused}
+use Rattle.node.proofs.Entries.{Entered, entered, opened-judge, shut-judge}
+use Rattle.node.proofs.Spelling.{length-prefixOf, length-four, suffix-short}
+
+module _ (w : ℕ) (p : List ℕ) (i : ℕ) (h : Header) (s : Slot) (e : openedOf w p i ≡ Opened·Is h s) where
+  abbrev E : Entered w p i h s
+  E = entered w p i h s e
+
+  -- ---- its places
+  prefix-is : h .«prefix_len» ≡ frameOf p .prefixLen
+  unfolding headerOf
+  prefix-is = ap (λ (k : Header). k .«prefix_len») (E .header)
+
+  pub prefix-most : h .«prefix_len» ≤ 16256
+  prefix-most = rw prefix-is (E .rules .prefixMost)
+
+  pub size-least : 16384 ≤ length p
+  size-least = omega (arith, E .size)
+
+  pub suffix-within : 96 + s .offset + bodyBytes 4 (s .len) ≤ length p
+  suffix-within = let l = E .payload .1 in omega (arith, E .size, l)
+
+  -- ---- its key
+  pub key-is : keyAt p (slotOf p i) ≡ prefixOf p (h .«prefix_len») ++ suffixOf p s
+  unfolding keyAt frameOf
+  key-is = rw (prefix-is, E .slot)
+
+  length-suffix : length (suffixOf p s) ≡ s .len
+  unfolding suffixOf
+  length-suffix = go (decLe (s .len) 4)
+    where
+      go : Dec (s .len ≤ 4) → length (suffixOf p s) ≡ s .len
+      go (yes l) = rw (suffix-short p s l) (length-four (s .len) (s .head) (bigBytes 4 (s .head)) refl l)
+      go (no l) = rw (lt-leb (s .len) 4 (omega arith)) (length-part-le (s .len) p (96 + s .offset) (rw (← bodyBytes-long 4 (s .len) (omega arith)) suffix-within))
+
+  pub key-length : length (keyAt p (slotOf p i)) ≡ h .«prefix_len» + s .len
+  key-length = rw (key-is, length-append, length-prefixOf p (h .«prefix_len») size-least prefix-most, length-suffix)
+
+  -- ---- the copy
+  abbrev roomy : List ℕ → Bool
+  roomy out = leb (length (keyAt p (slotOf p i))) (length out)
+
+  copy-by : {A : Type 0} (out : List ℕ) (a : A) (r : Refusal → A) (t : Bool) → roomy out ≡ t → judge (copyChecks w p i out) a r ≡ pick t a (r BufferLength)
+  unfolding copyChecks judge
+  copy-by out a r t l = opened-judge w p i h s e (check (roomy out) BufferLength ∷ []) a r ∙ rw l
+
+  abbrev key : List ℕ
+  key = keyAt p (slotOf p i)
+
+  module _ (out : List ℕ) (n : ℕ) (k : n ≡ h .«prefix_len» + s .len) where
+    pub copy-short : length out < n → (Copied·Refused BufferLength ≡ copyOf w p i out) × (out ≡ copyBuffer w p i out)
+    unfolding copyOf copyBuffer
+    copy-short l =
+        let t : roomy out ≡ false = rw key-length (lt-leb (h .«prefix_len» + s .len) (length out) (omega arith)) in
+        (sym (copy-by out (Copied·Bytes (length key)) Copied·Refused false t), sym (copy-by out (put out 0 key) (λ r. out) false t))
+
+    pub copy-done : n ≤ length out → (Copied·Bytes n ≡ copyOf w p i out) × (put out 0 (prefixOf p (h .«prefix_len») ++ suffixOf p s) ≡ copyBuffer w p i out)
+    unfolding copyOf copyBuffer
+    copy-done l =
+        let t : roomy out ≡ true = rw key-length (le-leb (h .«prefix_len» + s .len) (length out) (omega arith)) in (
+          sym (copy-by out (Copied·Bytes (length key)) Copied·Refused true t ∙ ap Copied·Bytes (key-length ∙ sym k)),
+          sym (copy-by out (put out 0 key) (λ r. out) true t ∙ ap (put out 0) key-is),
+        )
+
+pub copy-shut : (w : ℕ) (p : List ℕ) (i : ℕ) (out : List ℕ) (q : Refusal) → openedOf w p i ≡ Opened·Refused q → (Copied·Refused q ≡ copyOf w p i out) × (out ≡ copyBuffer w p i out)
+unfolding copyOf copyBuffer copyChecks
+copy-shut w p i out q e = (sym (shut-judge w p i q e _ _ Copied·Refused), sym (shut-judge w p i q e _ _ (λ (r : Refusal). out)))
