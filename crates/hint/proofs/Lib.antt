@@ -1,0 +1,3 @@
+pub mod Refreshed
+pub mod Runs
+pub mod Windows

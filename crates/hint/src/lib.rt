@@ -1,0 +1,4 @@
+// Hints: eight heads that narrow a search to a window of the slots.
+pub mod fresh;
+pub mod hints;
+pub mod window;
