@@ -1,15 +1,13 @@
 -- The key of an entry that may be read is prefix and suffix as the code finds them, and the copy's three ways out. Assumes nothing.
-use mathlib.Core.Path.{_≡_, refl, sym, ap, _∙_}
+use mathlib.Core.Path.{_≡_, sym, ap, _∙_}
 use mathlib.Core.Bool.{Bool, true, false}
 use mathlib.Core.List.{List, [], _∷_, _++_}
 use Prim.Native.Nat.{ℕ, _+_, _≤_, _<_}
-use native.Mathlib.Decide.{decLe}
 use native.Mathlib.Omega.{arith}
 use borrow.Author.Tests.{le-leb, lt-leb}
 use lib.Dec.{leb}
 use lib.ListN.{length, length-append}
-use Rattle.octets.specs.Bytes.{put, bigBytes}
-use Rattle.octets.proofs.Part.{length-part-le}
+use Rattle.octets.specs.Bytes.{put}
 use Rattle.keys.specs.Choice.{pick}
 use Rattle.paper.specs.Page.{slotOf, frameOf, headerOf, prefixOf, suffixOf, bodyBytes}
 use Rattle.paper.specs.Refusals.{check, judge}
@@ -19,11 +17,10 @@ use Rattle.paper.specs.declared.page.Header.{Header}
 use Rattle.paper.specs.declared.refusal.Refusal.{Refusal}
 use Rattle.paper.specs.declared.refusal.Refusal.the-variants.{BufferLength}
 use Rattle.paper.specs.declared.answers.Copied.the-variants.{Bytes as Copied·Bytes, Refused as Copied·Refused}
-use Rattle.paper.proofs.Same.{bodyBytes-long}
 use Rattle.node.specs.Admit.{openedOf}
 use Rattle.node.specs.declared.entry.Opened.the-variants.{Is as Opened·Is, Refused as Opened·Refused}
 use Rattle.node.proofs.Entries.{Entered, entered, opened-judge, shut-judge}
-use Rattle.node.proofs.Spelling.{length-prefixOf, length-four, suffix-short}
+use Rattle.node.proofs.Spelling.{length-prefixOf, length-suffixOf}
 
 module _ (w : ℕ) (p : List ℕ) (i : ℕ) (h : Header) (s : Slot) (e : openedOf w p i ≡ Opened·Is h s) where
   abbrev E : Entered w p i h s
@@ -48,16 +45,8 @@ module _ (w : ℕ) (p : List ℕ) (i : ℕ) (h : Header) (s : Slot) (e : openedO
   unfolding keyAt frameOf
   key-is = rw (prefix-is, E .slot)
 
-  length-suffix : length (suffixOf p s) ≡ s .len
-  unfolding suffixOf
-  length-suffix = go (decLe (s .len) 4)
-    where
-      go : Dec (s .len ≤ 4) → length (suffixOf p s) ≡ s .len
-      go (yes l) = rw (suffix-short p s l) (length-four (s .len) (s .head) (bigBytes 4 (s .head)) refl l)
-      go (no l) = rw (lt-leb (s .len) 4 (omega arith)) (length-part-le (s .len) p (96 + s .offset) (rw (← bodyBytes-long 4 (s .len) (omega arith)) suffix-within))
-
   pub key-length : length (keyAt p (slotOf p i)) ≡ h .«prefix_len» + s .len
-  key-length = rw (key-is, length-append, length-prefixOf p (h .«prefix_len») size-least prefix-most, length-suffix)
+  key-length = rw (key-is, length-append, length-prefixOf p (h .«prefix_len») size-least prefix-most, length-suffixOf p s suffix-within)
 
   -- ---- the copy
   abbrev roomy : List ℕ → Bool

@@ -1,5 +1,5 @@
 -- Prefix and suffix as code finds them on the page, and a head's four bytes. Assumes nothing.
-use mathlib.Core.Path.{_≡_, sym, _∙_}
+use mathlib.Core.Path.{_≡_, refl, sym, _∙_}
 use mathlib.Core.List.{List, [], _∷_, _++_}
 use Prim.Native.Nat.{ℕ, _+_, _-_, _^_, _/_, _%_, _≤_, _<_}
 use native.Mathlib.Decide.{decLe}
@@ -59,6 +59,14 @@ module _ (p : List ℕ) (s : Slot) where
 -- the room that a suffix is copied from
 pub suffix-room : (n at m : ℕ) → 4 < n → at + bodyBytes 4 n ≤ m → at + n ≤ m
 suffix-room n at m h k = rw (← bodyBytes-long 4 n h) k
+
+pub length-suffixOf : (p : List ℕ) (s : Slot) → 96 + s .offset + bodyBytes 4 (s .len) ≤ length p → length (suffixOf p s) ≡ s .len
+unfolding suffixOf
+length-suffixOf p s h = go (decLe (s .len) 4)
+  where
+    go : Dec (s .len ≤ 4) → length (suffixOf p s) ≡ s .len
+    go (yes l) = rw (suffix-short p s l) (length-four (s .len) (s .head) (bigBytes 4 (s .head)) refl l)
+    go (no l) = rw (lt-leb (s .len) 4 (omega arith)) (length-part-le (s .len) p (96 + s .offset) (suffix-room (s .len) (96 + s .offset) (length p) (omega arith) h))
 
 -- ---- both
 pub put-both : (out pre suf : List ℕ) (n : ℕ) → length pre ≡ n → put (put out 0 pre) n suf ≡ put out 0 (pre ++ suf)

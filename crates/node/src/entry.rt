@@ -1,4 +1,4 @@
-// Entries: the tests of every entry read, the entry itself, and its trailing id.
+// Entries: the tests of every entry read, and the entry itself.
 ghost use mathlib.Core.Path.{_≡_};
 ghost use Rattle.paper.specs.Calls.{readEntry};
 ghost use Rattle.paper.specs.Page.{valueAt};

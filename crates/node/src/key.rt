@@ -48,7 +48,7 @@ fn put_short(head: u32, n: usize, out: &mut [u8], at: usize)
 }
 
 // Writes the suffix of a slot from `at` on, and no other byte.
-fn put_suffix(p: &[u8], s: Slot, out: &mut [u8], at: usize)
+pub(crate) fn put_suffix(p: &[u8], s: Slot, out: &mut [u8], at: usize)
     requires { ⌜ (at + s .len ≤ length (now out)) × (96 + s .offset + bodyBytes 4 (s .len) ≤ length (now p)) ⌝ }
     ensures { λ _. ⌜ now (out .exit) ≡ put (now (out .entry)) at (suffixOf (now (p .entry)) s) ⌝ }
 {
@@ -68,6 +68,13 @@ fn put_key(p: &[u8], prefix_len: u16, s: Slot, out: &mut [u8])
 {
     runs::copy_in(out, 0, prefix(p, prefix_len));
     put_suffix(p, s, out, prefix_len as usize);
+}
+
+// Where a long suffix ends, in the body.
+pub fn suffix_end(s: Slot) -> usize
+    ensures { λ r. ⌜ r ≡ s .offset + s .len ⌝ }
+{
+    (s.offset as usize) + (s.len as usize)
 }
 
 // The length of a slot's key.

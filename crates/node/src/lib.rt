@@ -5,3 +5,4 @@ pub mod header;
 pub mod key;
 pub mod slots;
 pub mod space;
+pub mod trailing;

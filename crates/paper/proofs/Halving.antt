@@ -1,6 +1,6 @@
 -- Halving finds the place where the answers part, from any range that holds it; a scan of rising keys parts them; and the first hint that
 -- passes is where it says. Assumes nothing.
-use mathlib.Core.Path.{_≡_, refl, ap}
+use mathlib.Core.Path.{_≡_, refl, sym, ap, _∙_}
 use mathlib.Core.Bool.{Bool, true, false}
 use mathlib.Core.List.{List, [], _∷_}
 use Prim.Native.Nat.{ℕ, zero, suc, _+_, _-_, _≤_, _<_}
@@ -19,7 +19,49 @@ use Rattle.paper.specs.Searches.{middle, halving, passed}
 use Rattle.paper.proofs.Lists.{both-parts}
 use Rattle.paper.proofs.Sorted.{never, less-order, order-less, less-trans}
 
--- ---- halving
+-- ---- halving, step by step
+module _ {A B : Type 0} (t : A → B → B → B) (d : ℕ → B) where
+  pub halving-end : (k : ℕ) (f : ℕ → A) (lo hi : ℕ) → hi ≤ lo → halving t d k f lo hi ≡ d lo
+  unfolding halving
+  halving-end zero f lo hi h = refl
+  halving-end (suc k) f lo hi h = rw (le-ltb lo hi h)
+
+  -- how often it may halve does not matter, if often enough
+  pub halving-fuel : (k m : ℕ) (f : ℕ → A) (lo hi : ℕ) → hi - lo ≤ k → hi - lo ≤ m → halving t d k f lo hi ≡ halving t d m f lo hi
+  unfolding halving
+  halving-fuel zero m f lo hi h g = sym (halving-end m f lo hi (omega arith))
+  halving-fuel (suc k) zero f lo hi h g = halving-end (suc k) f lo hi (omega arith)
+  halving-fuel (suc k) (suc m) f lo hi h g = go (decLt lo hi) (halving-fuel k m f (middle lo hi + 1) hi) (halving-fuel k m f lo (middle lo hi))
+    where
+      go : Dec (lo < hi)
+          → (hi - (middle lo hi + 1) ≤ k → hi - (middle lo hi + 1) ≤ m → halving t d k f (middle lo hi + 1) hi ≡ halving t d m f (middle lo hi + 1) hi)
+          → (middle lo hi - lo ≤ k → middle lo hi - lo ≤ m → halving t d k f lo (middle lo hi) ≡ halving t d m f lo (middle lo hi))
+          → halving t d (suc k) f lo hi ≡ halving t d (suc m) f lo hi
+      go (yes l) up down = rw (up (omega arith) (omega arith), down (omega arith) (omega arith))
+      go (no l) up down = rw (le-ltb lo hi (omega arith))
+
+  -- a turn
+  pub halving-turn : (f : ℕ → A) (lo hi : ℕ) → lo < hi
+      → halving t d (hi - lo) f lo hi
+      ≡ t (f (middle lo hi)) (halving t d (hi - (middle lo hi + 1)) f (middle lo hi + 1) hi) (halving t d (middle lo hi - lo) f lo (middle lo hi))
+  unfolding halving
+  halving-turn f lo hi h =
+      let up = halving-fuel (hi - lo - 1) (hi - (middle lo hi + 1)) f (middle lo hi + 1) hi (omega arith) (omega arith) in
+      let down = halving-fuel (hi - lo - 1) (middle lo hi - lo) f lo (middle lo hi) (omega arith) (omega arith) in
+      halving-fuel (hi - lo) (suc (hi - lo - 1)) f lo hi (omega arith) (omega arith) ∙ rw (lt-ltb lo hi h, up, down)
+
+  -- what is met matters only in the range
+  pub halving-same : (k : ℕ) (f g : ℕ → A) (lo hi : ℕ) → ((i : ℕ) → i < hi → f i ≡ g i) → halving t d k f lo hi ≡ halving t d k g lo hi
+  unfolding halving
+  halving-same zero f g lo hi e = refl
+  halving-same (suc k) f g lo hi e = go (decLt lo hi) (halving-same k f g (middle lo hi + 1) hi e) (λ l. halving-same k f g lo (middle lo hi) (λ i h. e i (omega arith)))
+    where
+      go : Dec (lo < hi) → halving t d k f (middle lo hi + 1) hi ≡ halving t d k g (middle lo hi + 1) hi
+          → (lo < hi → halving t d k f lo (middle lo hi) ≡ halving t d k g lo (middle lo hi)) → halving t d (suc k) f lo hi ≡ halving t d (suc k) g lo hi
+      go (yes l) up down = rw (lt-ltb lo hi l, e (middle lo hi) (omega arith), up, down l)
+      go (no l) up down = rw (le-ltb lo hi (omega arith))
+
+-- ---- where the answers part
 pub halving-to : {A B : Type 0} (t : A → B → B → B) (d : ℕ → B) (f : ℕ → A) (n r : ℕ)
     → ((i : ℕ) → i < r → (x y : B) → t (f i) x y ≡ x) → ((i : ℕ) → r ≤ i → i < n → (x y : B) → t (f i) x y ≡ y)
     → (k lo hi : ℕ) → lo ≤ r → r ≤ hi → hi ≤ n → hi - lo ≤ k → halving t d k f lo hi ≡ d r
