@@ -78,6 +78,11 @@ module _ (w : ℕ) (p : List ℕ) (n : ℕ) where
       let R = A .rules in
       (omega (arith, A .size), omega (arith, count-is h e, R .start, R .order, R .top))
 
+  -- and so does its prefix
+  pub prefix-lies : (h : Header) → admitOf w p n ≡ Admitted·Is h → h .«prefix_len» ≤ 16256
+  unfolding headerOf
+  prefix-lies h e = let A = admitted h e in rw (A .header) (A .rules .prefixMost)
+
   -- a call with these tests goes on
   pub admitted-judge : (h : Header) → admitOf w p n ≡ Admitted·Is h → {A : Type 0} (a : A) (r : Refusal → A) → judge (admitChecks w p n) a r ≡ a
   admitted-judge h e a r = judge-hold (admitChecks w p n) a r (holds h e)

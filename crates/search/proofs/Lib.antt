@@ -1,0 +1,4 @@
+pub mod Classes
+pub mod Meets
+pub mod Halves
+pub mod Bounded

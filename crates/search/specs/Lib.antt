@@ -1,0 +1,3 @@
+pub mod Probe
+pub mod Slot
+pub mod Bounds

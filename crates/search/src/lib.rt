@@ -1,0 +1,5 @@
+// Searches: a probe against the prefix and the slots, halving, find, the bounds.
+pub mod bound;
+mod halve;
+pub mod probe;
+mod slot;
