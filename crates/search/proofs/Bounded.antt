@@ -1,6 +1,6 @@
 -- The bounds by a header are the paper's: the window lies among the slots, and within the prefix a slot that is visited meets the probe's suffix.
 -- Assumes nothing.
-use mathlib.Core.Path.{_≡_, refl, sym, ap, _∙_}
+use mathlib.Core.Path.{_≡_, refl, sym, _∙_}
 use mathlib.Core.Bool.{Bool, true, false}
 use mathlib.Core.List.{List}
 use Prim.Native.Nat.{ℕ, zero, suc, _-_, _*_, _≤_, _<_}
@@ -12,7 +12,7 @@ use Rattle.keys.specs.declared.order.Order.{Order}
 use Rattle.keys.specs.declared.order.Order.the-variants.{Below, Same, Above}
 use Rattle.paper.specs.Page.{frameOf, numbersOf, headerOf, hintsOf}
 use Rattle.paper.specs.Hints.{inUse, windowLow, windowHigh}
-use Rattle.paper.specs.Searches.{probeSuffix, classOf, byClass, slotOrder, visit, slotMeets, turn, halving, boundIn, boundBy, bound}
+use Rattle.paper.specs.Searches.{probeSuffix, classOf, byClass, slotOrder, visit, turn, halving, boundIn, boundBy, bound}
 use Rattle.paper.specs.declared.page.Header.{Header}
 use Rattle.paper.specs.declared.answers.Bound.{Bound}
 use Rattle.paper.specs.declared.answers.Bound.the-variants.{At as Bound·At, Refused as Bound·Refused}
@@ -102,7 +102,7 @@ module _ (u : Bool) (w : ℕ) (p k : List ℕ) where
   abbrev n : ℕ
   n = numbersOf p .count
 
-  met : classOf (frameOf p) k ≡ Same → (i : ℕ) → metAt w p (numbersOf p .end) s i ≡ slotOrder w p k i
+  pub met : classOf (frameOf p) k ≡ Same → (i : ℕ) → metAt w p (numbersOf p .end) s i ≡ slotOrder w p k i
   unfolding metAt slotOrder visit byClass
   met e i = rw e
 
@@ -112,7 +112,7 @@ module _ (u : Bool) (w : ℕ) (p k : List ℕ) where
       halving-fuel (turn u) Bound·At (hi - lo) n (metAt w p (numbersOf p .end) s) lo hi (omega arith) (omega arith)
       ∙ halving-same (turn u) Bound·At n (metAt w p (numbersOf p .end) s) (slotOrder w p k) lo hi (λ i l. met e i)
 
-  in-is : classOf (frameOf p) k ≡ Same → searched u w p (headerOf p) s ≡ boundIn u w p k
+  pub in-is : classOf (frameOf p) k ≡ Same → searched u w p (headerOf p) s ≡ boundIn u w p k
   unfolding searched boundIn headerOf windowOf
   in-is e = go (inUse (frameOf p .flag) n) refl
     where

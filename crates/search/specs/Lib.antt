@@ -1,3 +1,5 @@
 pub mod Probe
 pub mod Slot
 pub mod Bounds
+pub mod Finds
+pub mod Compares

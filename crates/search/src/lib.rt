@@ -1,5 +1,7 @@
 // Searches: a probe against the prefix and the slots, halving, find, the bounds.
 pub mod bound;
+pub mod compare;
+pub mod find;
 mod halve;
 pub mod probe;
 mod slot;

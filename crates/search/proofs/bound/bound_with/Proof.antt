@@ -1,6 +1,6 @@
 -- Each class is a case of `boundBy`.
 use borrow.Author.Needs.{needs}
-use mathlib.Core.Path.{sym, ap, _∙_}
+use mathlib.Core.Path.{sym}
 use Rattle.search.proofs.Bounded.{bound-before, bound-after, bound-within}
 use Rattle.search.proofs.bound.bound_with.Statement.{statement}
 use Rattle.search.proofs.bound.bound_with.Tie as tie
