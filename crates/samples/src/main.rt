@@ -4,7 +4,10 @@ use keys::head;
 use keys::order;
 use keys::order::Order;
 use keys::shared;
+use node::space;
 use octets::number;
+use paper::answers::Forecast;
+use paper::answers::Needed;
 
 fn main() {
     head_of(b"");
@@ -16,6 +19,11 @@ fn main() {
     order_of(b"abcde", b"abcdf");
     common_prefix_of(b"hub/A", b"hub/B");
     common_prefix_of(b"", b"");
+    need_of(8, b"abcd");
+    need_of(8, b"abcde");
+    need_of(0, b"");
+    forecast_of(b"xxxxxxxxxxxxxxxxxa", b"xxxxxxxxxxxxxxxxxb");
+    forecast_of(b"xxxxxxxxxxxxxxxxa", b"xxxxxxxxxxxxxxxxb");
 }
 
 // The head of a suffix, as eight hex digits.
@@ -51,6 +59,41 @@ fn common_prefix_of(a: &[u8], b: &[u8]) {
     io::write_all(1, b" ");
     io::print_decimal(1, shared::common_prefix_len(a, b) as u64);
     io::write_all(1, b"\n");
+}
+
+// The need of an entry by its width and its suffix.
+fn need_of(width: u8, suffix: &[u8]) {
+    io::write_all(1, b"need ");
+    io::print_decimal(1, width as u64);
+    io::write_all(1, b" ");
+    print_key(suffix);
+    let Needed::Bytes(n) = space::need(width, 0, suffix) else {
+        io::write_all(1, b" refused\n");
+        return;
+    };
+    print_number(n);
+    io::write_all(1, b"\n");
+}
+
+// The forecast from two fences: common prefix length, and space.
+fn forecast_of(lower: &[u8], upper: &[u8]) {
+    io::write_all(1, b"forecast ");
+    print_key(lower);
+    io::write_all(1, b" ");
+    print_key(upper);
+    let Forecast::Are(n, bytes) = space::forecast(lower, upper) else {
+        io::write_all(1, b" refused\n");
+        return;
+    };
+    print_number(n as u64);
+    print_number(bytes as u64);
+    io::write_all(1, b"\n");
+}
+
+// A blank and a number in decimal.
+fn print_number(n: u64) {
+    io::write_all(1, b" ");
+    io::print_decimal(1, n);
 }
 
 // A key in hex, "-" if it is empty.
