@@ -1,0 +1,206 @@
+// The calls: each is carried out and its answer written. All answer whether the program goes on.
+ghost use mathlib.Core.Path.{_≡_};
+ghost use lib.ListN.{length};
+use crate::registers;
+use crate::wire;
+use crate::wire::Request;
+use node::entry;
+use node::key;
+use node::space;
+use node::trailing;
+use octets::number;
+use paper::answers::Bound;
+use paper::answers::Compared;
+use paper::answers::Copied;
+use paper::answers::EntryRead;
+use paper::answers::Forecast;
+use paper::answers::Found;
+use paper::answers::Needed;
+use paper::answers::Space;
+use paper::answers::SpaceRead;
+use paper::answers::Trailing;
+use search::bound;
+use search::compare;
+use search::find;
+
+// Answers a request whose runs stand at the front of `first` and `second`.
+pub(crate) fn answer(store: &mut [u8], first: &[u8], second: &mut [u8], q: Request) -> bool
+    requires { ⌜ length (now store) ≡ 328016 ⌝ }
+{
+    let key = wire::front(first, q.n);
+    if q.call == 16 {
+        return need(q, key);
+    }
+    if q.call == 17 {
+        return forecast(key, wire::front(second, q.m));
+    }
+    if 3 < q.page {
+        return wire::broken();
+    }
+    if q.call == 0 {
+        registers::load(store, q.page as usize, key);
+        return wire::pair(0, 0);
+    }
+    on_page(registers::content(store, q.page as usize), key, second, q)
+}
+
+// Answers a call that reads a page.
+fn on_page(page: &[u8], key: &[u8], second: &mut [u8], q: Request) -> bool {
+    if q.call == 12 {
+        return entry_of(page, q, second);
+    }
+    if q.call == 13 {
+        return copy_of(page, q, second);
+    }
+    if q.call == 1 {
+        return wire::reply(0, 0, 0, page);
+    }
+    if q.call == 14 {
+        return trailing_of(page, q);
+    }
+    if q.call == 15 {
+        return space_of(page);
+    }
+    if q.call == 21 {
+        return wire::pair(digest(page), 0);
+    }
+    on_key(page, key, q)
+}
+
+// Answers a call that holds a key against a page.
+fn on_key(page: &[u8], key: &[u8], q: Request) -> bool {
+    if q.call == 7 {
+        return found(find::find(page, q.width, key));
+    }
+    if q.call == 8 {
+        return bounded(bound::lower_bound(page, q.width, key));
+    }
+    if q.call == 9 {
+        return bounded(bound::upper_bound(page, q.width, key));
+    }
+    if q.call == 10 {
+        return compared(compare::compare_slot(page, q.width, q.a as usize, key));
+    }
+    wire::broken()
+}
+
+// Find: the slot and 1, or the number of smaller keys and 0.
+fn found(f: Found) -> bool {
+    match f {
+        Found::Equal(i) => wire::pair(i as u64, 1),
+        Found::Smaller(i) => wire::pair(i as u64, 0),
+        Found::Refused(r) => wire::refused(r),
+    }
+}
+
+// A bound.
+fn bounded(b: Bound) -> bool {
+    match b {
+        Bound::At(i) => wire::pair(i as u64, 0),
+        Bound::Refused(r) => wire::refused(r),
+    }
+}
+
+// Compare: -1, 0 or 1.
+fn compared(c: Compared) -> bool {
+    match c {
+        Compared::Sign(s) => wire::pair(signed_word(s), 0),
+        Compared::Refused(r) => wire::refused(r),
+    }
+}
+
+// -1, 0 or 1 as a number of 64 bits, in two's complement.
+fn signed_word(s: i8) -> u64 {
+    if s < 0 {
+        return 18446744073709551615;
+    }
+    if s == 0 {
+        return 0;
+    }
+    1
+}
+
+// Entry: its value, and its key by way of `out`.
+fn entry_of(page: &[u8], q: Request, out: &mut [u8]) -> bool {
+    let i = q.a as usize;
+    match entry::entry(page, q.width, i) {
+        EntryRead::Is(_, v) => {
+            match key::copy_key(page, q.width, i, out) {
+                Copied::Bytes(n) => wire::reply(0, v, 0, wire::front(out, n)),
+                Copied::Refused(r) => wire::refused(r),
+            }
+        }
+        EntryRead::Refused(r) => wire::refused(r),
+    }
+}
+
+// Key copy: the key's length, and the lent buffer whole.
+fn copy_of(page: &[u8], q: Request, second: &mut [u8]) -> bool {
+    if second.len() < q.m {
+        return wire::broken();
+    }
+    let out = &mut second[..q.m];
+    match key::copy_key(page, q.width, q.a as usize, out) {
+        Copied::Bytes(n) => wire::reply(0, n as u64, 0, out),
+        Copied::Refused(r) => wire::refused_with(r, out),
+    }
+}
+
+// Trailing id.
+fn trailing_of(page: &[u8], q: Request) -> bool {
+    match trailing::trailing_id(page, q.width, q.a as usize) {
+        Trailing::Id(v) => wire::pair(v, 0),
+        Trailing::Refused(r) => wire::refused(r),
+    }
+}
+
+// The space numbers.
+fn space_of(page: &[u8]) -> bool {
+    match space::space_numbers(page) {
+        SpaceRead::Are(s) => space_told(s),
+        SpaceRead::Refused(r) => wire::refused(r),
+    }
+}
+
+// Seven numbers of eight bytes each.
+fn space_told(s: Space) -> bool {
+    let mut out = [0u8; 56];
+    number::write_u64(&mut out, 0, s.start);
+    number::write_u64(&mut out, 8, s.end);
+    number::write_u64(&mut out, 16, s.free);
+    number::write_u64(&mut out, 24, s.used);
+    number::write_u64(&mut out, 32, s.effective);
+    number::write_u64(&mut out, 40, s.reclaimable);
+    number::write_u64(&mut out, 48, s.compacted);
+    wire::reply(0, 0, 0, &out)
+}
+
+// Need of an entry.
+fn need(q: Request, key: &[u8]) -> bool {
+    match space::need(q.width, q.a as usize, key) {
+        Needed::Bytes(n) => wire::pair(n, 0),
+        Needed::Refused(r) => wire::refused(r),
+    }
+}
+
+// Forecast from two fences: prefix length, and space.
+fn forecast(lower: &[u8], upper: &[u8]) -> bool {
+    match space::forecast(lower, upper) {
+        Forecast::Are(n, bytes) => wire::pair(n as u64, bytes as u64),
+        Forecast::Refused(r) => wire::refused(r),
+    }
+}
+
+// Two sums over all bytes, the first in the upper 32 bits and the second in the lower.
+fn digest(bytes: &[u8]) -> u64 {
+    let mut h1: u64 = 0;
+    let mut h2: u64 = 0;
+    let mut i = 0;
+    while i < bytes.len() {
+        let x = number::byte(bytes, i);
+        h1 = (31 * h1 + x + 1) % 4294967291;
+        h2 = (37 * h2 + x + 1) % 4294967279;
+        i += 1;
+    }
+    4294967296 * h1 + h2
+}
