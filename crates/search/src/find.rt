@@ -1,4 +1,4 @@
-// Find, and a slot compared with a probe.
+// Find.
 ghost use mathlib.Core.Path.{_≡_};
 ghost use Prim.Native.Nat.{_*_, _≤_};
 ghost use lib.ListN.{length};

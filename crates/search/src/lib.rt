@@ -1,4 +1,4 @@
-// Searches: a probe against the prefix and the slots, halving, find, the bounds.
+// Searches: a probe against the prefix and the slots, halving, find, the bounds, compare.
 pub mod bound;
 pub mod compare;
 pub mod find;

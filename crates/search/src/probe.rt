@@ -11,8 +11,8 @@ use keys::shared;
 use node::key;
 use octets::number;
 
-// How `a` stands to `b`, by what they share. The hot search has the only call of `keys::order::compare`, so that it is
-// made part of it; all else comes here.
+// How `a` stands to `b`, by what they share: so `keys::order::compare` has one call in this crate, where slots meet a
+// probe.
 pub fn order_by_shared(a: &[u8], b: &[u8]) -> Order
     ensures { λ r. ⌜ r ≡ order (now (a .entry)) (now (b .entry)) ⌝ }
 {
