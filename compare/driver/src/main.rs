@@ -20,6 +20,7 @@ mod quiet;
 mod random;
 mod record;
 mod run;
+mod samples;
 mod script;
 mod shrink;
 mod tables;
@@ -35,6 +36,7 @@ fn main() -> ExitCode {
             "run" => run::run(&options),
             "record" => record::record(&options),
             "departures" => departures::departures(&options),
+            "samples" => samples::samples(&options),
             _ => Err(USAGE.into()),
         }
     });

@@ -6,7 +6,7 @@ use std::path::Path;
 
 /// What the command line says.
 pub struct Options {
-    /// `run`, `departures` or `record`.
+    /// `run`, `departures`, `record` or `samples`.
     pub command: String,
     /// The seeds of a run, one after the other.
     pub seeds: Vec<u64>,
@@ -30,6 +30,8 @@ pub struct Options {
     pub out_stdin: Option<String>,
     /// The file for recorded answers.
     pub out_stdout: Option<String>,
+    /// The folder for sample pages.
+    pub out: Option<String>,
     /// The most bytes of a recording.
     pub limit: usize,
 }
@@ -39,6 +41,7 @@ pub const USAGE: &str = "\
 compare run [--seed S[,S...]] [--count N] [--ask CMD|none] [--page FILE]... [--width W] [--calls C[,C...]] [--tell N] [--patience SECONDS] [--shows]
 compare departures [--ask CMD|none]
 compare record --out-stdin FILE --out-stdout FILE [--seed S] [--limit BYTES] [--calls C[,C...]]
+compare samples --out FOLDER
 
 Without --ask, `run ask` at the project's root is asked, if that program is there.";
 
@@ -58,6 +61,7 @@ impl Options {
             patience: 10,
             out_stdin: None,
             out_stdout: None,
+            out: None,
             limit: 3_000_000,
         };
         while let Some(name) = arguments.next() {
@@ -89,6 +93,7 @@ impl Options {
             "--calls" => self.calls = list(&value)?,
             "--out-stdin" => self.out_stdin = Some(value),
             "--out-stdout" => self.out_stdout = Some(value),
+            "--out" => self.out = Some(value),
             "--limit" => self.limit = number(&value)?,
             _ => return Err(format!("{name} is no option\n\n{USAGE}")),
         }

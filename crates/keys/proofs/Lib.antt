@@ -4,3 +4,4 @@ pub mod Prefixes
 pub mod Heads
 pub mod Words
 pub mod Between
+pub mod Sharing

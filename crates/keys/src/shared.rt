@@ -1,8 +1,9 @@
-// What two keys share: the length of their longest common prefix, and whether they are equal.
+// What two keys share: the length of their longest common prefix, whether they are equal, and their order by it.
 ghost use mathlib.Core.Path.{_≡_};
 ghost use Prim.Native.Nat.{_≤_};
-ghost use Rattle.keys.specs.Keys.{common, sameList};
+ghost use Rattle.keys.specs.Keys.{common, order, sameList};
 ghost use Rattle.keys.specs.Walk.{Near, Reach};
+use crate::order::Order;
 use crate::walk;
 use octets::number;
 
@@ -103,4 +104,25 @@ pub fn equal(a: &[u8], b: &[u8]) -> bool
         return false;
     }
     common_prefix_len(a, b) == a.len()
+}
+
+// How `a` stands to `b`, by what they share. Where speed matters less than the one call of `order::compare`, which then melts
+// into the hot search.
+pub fn order_by_shared(a: &[u8], b: &[u8]) -> Order
+    ensures { λ r. ⌜ r ≡ order (now (a .entry)) (now (b .entry)) ⌝ }
+{
+    let n = common_prefix_len(a, b);
+    if n == a.len() {
+        if n == b.len() {
+            return Order::Same;
+        }
+        return Order::Below;
+    }
+    if n == b.len() {
+        return Order::Above;
+    }
+    if a[n] < b[n] {
+        return Order::Below;
+    }
+    Order::Above
 }

@@ -112,7 +112,7 @@ module _ (u : Bool) (w : ℕ) (p k : List ℕ) where
       halving-fuel (turn u) Bound·At (hi - lo) n (metAt w p (numbersOf p .end) s) lo hi (omega arith) (omega arith)
       ∙ halving-same (turn u) Bound·At n (metAt w p (numbersOf p .end) s) (slotOrder w p k) lo hi (λ i l. met e i)
 
-  pub in-is : classOf (frameOf p) k ≡ Same → searched u w p (headerOf p) s ≡ boundIn u w p k
+  in-is : classOf (frameOf p) k ≡ Same → searched u w p (headerOf p) s ≡ boundIn u w p k
   unfolding searched boundIn headerOf windowOf
   in-is e = go (inUse (frameOf p .flag) n) refl
     where
@@ -127,6 +127,10 @@ module _ (u : Bool) (w : ℕ) (p k : List ℕ) where
           ≡ pick t (halving (turn u) Bound·At n (slotOrder w p k) (windowLow (hintsOf p) (headOf s) n) (windowHigh (hintsOf p) (headOf s) n)) (halving (turn u) Bound·At n (slotOrder w p k) 0 n)
       go true f = halved-is e (windowLow (hintsOf p) (headOf s) n) (windowHigh (hintsOf p) (headOf s) n) (window-within (hintsOf p) (headOf s) n (length-hints p 0 0 0) .1)
       go false f = halved-is e 0 n (omega arith)
+
+  pub searched-is : classOf (frameOf p) k ≡ Same → searched u w p (headerOf p) s ≡ bound u w p k
+  unfolding bound boundBy
+  searched-is e = in-is e ∙ rw e
 
   pub bound-is : boundWith u w p (headerOf p) k ≡ bound u w p k
   unfolding boundWith bound headerOf boundBy

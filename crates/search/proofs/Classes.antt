@@ -1,62 +1,24 @@
--- A probe against the page's prefix: the order of two keys by what they share, the class as a number, and the probe's suffix. Assumes
+-- A probe against the page's prefix: the class as a number, and the probe's suffix. Assumes
 -- nothing.
 use mathlib.Core.Path.{_≡_, refl, sym, ap, _∙_}
-use mathlib.Core.Logic.{inl, inr}
+use mathlib.Core.Bool.{Bool, true, false}
 use mathlib.Core.List.{List}
 use Prim.Native.Nat.{ℕ, _-_, _≤_, _<_}
 use native.Mathlib.Omega.{arith}
-use lib.ListN.{length, getD, take, drop, length-drop, drop-of-length-le}
+use borrow.Author.Tests.{eq-eqb, ne-eqb}
+use lib.Dec.{eqb}
+use lib.ListN.{length, take, drop, length-drop, drop-of-length-le}
 use lib.Seq.{take-all, drop-length}
 use Rattle.octets.specs.Bytes.{le}
-use Rattle.keys.specs.Keys.{byNumber, order, common}
+use Rattle.keys.specs.Keys.{order, sameList}
 use Rattle.keys.specs.declared.order.Order.{Order}
 use Rattle.keys.specs.declared.order.Order.the-variants.{Below, Same, Above}
-use Rattle.keys.proofs.Numbers.{byNumber-lt, byNumber-eq, byNumber-gt}
-use Rattle.keys.proofs.Orders.{order-same}
-use Rattle.keys.proofs.Prefixes.{common-le, common-self, order-differ, order-lengths}
-use Rattle.paper.specs.Page.{prefixOf, frameOf}
+use Rattle.keys.proofs.Orders.{order-same, same-order, sameList-eq, eq-sameList}
+use Rattle.paper.specs.Page.{prefixOf, frameOf, headerOf}
 use Rattle.paper.specs.Searches.{classOf, probeSuffix}
+use Rattle.paper.specs.Calls.{hasPrefix}
+use Rattle.paper.specs.declared.page.Header.{Header}
 use Rattle.search.specs.Probe.{classBy, classNumber}
-
--- ---- two keys of which the first n bytes are shared, and no more
-module _ (a b : List ℕ) (n : ℕ) (e : n ≡ common a b) where
-  -- one key is all shared: the lengths decide
-  pub shared-same : n ≡ length a → n ≡ length b → Same ≡ order a b
-  shared-same h k = sym (order-lengths a b (inl (omega arith)) ∙ byNumber-eq (length a) (length b) Same (omega arith))
-
-  pub shared-below : n ≡ length a → (n ≡ length b → ⊥) → Below ≡ order a b
-  shared-below h k =
-      let l = common-le a b in
-      sym (order-lengths a b (inl (omega arith)) ∙ byNumber-lt (length a) (length b) Same (omega arith))
-
-  pub shared-above : (n ≡ length a → ⊥) → n ≡ length b → Above ≡ order a b
-  shared-above h k =
-      let l = common-le a b in
-      sym (order-lengths a b (inr (omega arith)) ∙ byNumber-gt (length a) (length b) Same (omega arith))
-
-  -- neither is: both go on
-  pub shared-left : (n ≡ length a → ⊥) → n < length a
-  shared-left h = let l = common-le a b in omega arith
-
-  pub shared-right : (n ≡ length b → ⊥) → n < length b
-  shared-right k = let l = common-le a b in omega arith
-
-  -- and the bytes there decide
-  differ-by : (n ≡ length a → ⊥) → (n ≡ length b → ⊥) → order a b ≡ byNumber (getD a n 0) (getD b n 0) Same
-  differ-by h k =
-      let l = shared-left h in
-      let m = shared-right k in
-      rw e (order-differ a b (rw (← e) l) (rw (← e) m))
-
-  pub differ-below : (n ≡ length a → ⊥) → (n ≡ length b → ⊥) → getD a n 0 < getD b n 0 → Below ≡ order a b
-  differ-below h k l = sym (differ-by h k ∙ byNumber-lt (getD a n 0) (getD b n 0) Same l)
-
-  -- they are not equal, for else the keys were
-  pub differ-above : (n ≡ length a → ⊥) → (n ≡ length b → ⊥) → getD b n 0 ≤ getD a n 0 → Above ≡ order a b
-  differ-above h k l =
-      let same : getD a n 0 ≡ getD b n 0 → a ≡ b = λ f. order-same a b (differ-by h k ∙ byNumber-eq (getD a n 0) (getD b n 0) Same f) in
-      let apart : getD a n 0 ≡ getD b n 0 → ⊥ = λ f. h (e ∙ ap (common a) (sym (same f)) ∙ common-self a) in
-      sym (differ-by h k ∙ byNumber-gt (getD a n 0) (getD b n 0) Same (omega arith))
 
 -- ---- the class
 pub class-long : (p k l : List ℕ) (n m : ℕ) (o : Order) → l ≡ prefixOf p n → o ≡ order (take n k) l → m ≡ classNumber o
@@ -72,6 +34,43 @@ class-short p k l n m o s f g h = class-long p k l n m o f (rw (take-all n k s) 
 pub class-is : (p k : List ℕ) → classBy p (frameOf p .prefixLen) k ≡ classOf (frameOf p) k
 unfolding classBy classOf frameOf
 class-is p k = refl
+
+-- lists are the same exactly when their class is the middle one
+differs : (a b : List ℕ) → (order a b ≡ Same → ⊥) → (t : Bool) → sameList a b ≡ t → t ≡ false
+differs a b f true e = absurd (f (same-order a b (sameList-eq a b e)))
+differs a b f false e = refl
+
+same-class : (a b : List ℕ) → sameList a b ≡ eqb (classNumber (order a b)) 1
+same-class a b = go (order a b) refl
+  where
+    clash : (o : Order) → (o ≡ Same → ⊥) → order a b ≡ o → sameList a b ≡ false
+    clash o f e = differs a b (λ q. f (sym e ∙ q)) (sameList a b) refl
+
+    go : (o : Order) → order a b ≡ o → sameList a b ≡ eqb (classNumber o) 1
+    go Below e = unfold classNumber in clash Below (λ q. let z : _≡_ {A = ℕ} 0 1 = cc in omega arith) e
+    go Same e = unfold classNumber in eq-sameList a b (order-same a b e)
+    go Above e = unfold classNumber in clash Above (λ q. let z : _≡_ {A = ℕ} 0 1 = cc in omega arith) e
+
+-- a key has the prefix exactly when its class is the middle one
+pub prefix-class : (p k : List ℕ) → hasPrefix (frameOf p) k ≡ eqb (classNumber (classOf (frameOf p) k)) 1
+unfolding hasPrefix classOf
+prefix-class p k = same-class (take (frameOf p .prefixLen) k) (frameOf p .prefix)
+
+pub prefix-same : (p k : List ℕ) → hasPrefix (frameOf p) k ≡ true → classOf (frameOf p) k ≡ Same
+unfolding hasPrefix classOf
+prefix-same p k e = same-order (take (frameOf p .prefixLen) k) (frameOf p .prefix) (sameList-eq (take (frameOf p .prefixLen) k) (frameOf p .prefix) e)
+
+-- by a header that was read; c is the class as a number
+module _ (p k : List ℕ) (h : Header) (e : h ≡ headerOf p) (c : ℕ) (f : c ≡ classNumber (classBy p (h .«prefix_len») k)) where
+  by-number : hasPrefix (frameOf p) k ≡ eqb c 1
+  unfolding headerOf
+  by-number = prefix-class p k ∙ sym (rw (f, e, class-is p k))
+
+  pub has-prefix : c ≡ 1 → hasPrefix (frameOf p) k ≡ true
+  has-prefix g = by-number ∙ eq-eqb c 1 g
+
+  pub lacks-prefix : (c ≡ 1 → ⊥) → hasPrefix (frameOf p) k ≡ false
+  lacks-prefix g = by-number ∙ ne-eqb c 1 g
 
 -- ---- what its number says
 pub class-number-lt : (o : Order) → classNumber o < 3

@@ -1,6 +1,9 @@
 pub mod Classes
 pub mod Meets
+pub mod Fences
 pub mod Halves
 pub mod Bounded
 pub mod Found
 pub mod Signs
+pub mod Scans
+pub mod Asked

@@ -2,9 +2,9 @@
 use mathlib.Core.Path.{_≡_, refl, sym, ap, _∙_}
 use mathlib.Core.Bool.{Bool, true, false}
 use mathlib.Core.List.{List, [], _∷_}
-use Prim.Native.Nat.{ℕ, _*_, _≤_, _<_}
-use native.Mathlib.Omega.{arith}
-use borrow.Author.Tests.{eq-eqb, ne-eqb, lt-ltb, le-ltb}
+use Prim.Native.Nat.{ℕ}
+use borrow.Author.Tests.{eq-eqb, ne-eqb}
+use lib.Dec.{ltb}
 use lib.ListN.{length}
 use lib.IntN.{pos, negsuc}
 use Rattle.keys.specs.Choice.{pick}
@@ -23,9 +23,9 @@ use Rattle.paper.specs.declared.answers.Compared.the-variants.{Sign, Refused as
 use Rattle.paper.proofs.Holding.{judge-append}
 use Rattle.node.specs.Admit.{admitOf}
 use Rattle.node.specs.declared.admit.Admitted.the-variants.{Is as Admitted·Is, Refused as Admitted·Refused}
-use Rattle.node.proofs.Admits.{admitted, count-is, slots-within, admitted-judge, refused-admit}
+use Rattle.node.proofs.Admits.{admitted, admitted-judge, refused-admit}
 use Rattle.search.specs.Probe.{classBy, classNumber}
-use Rattle.search.specs.Slot.{metAt}
+use Rattle.search.specs.Slot.{metAlone}
 use Rattle.search.specs.Compares.{signBy, signed, compareWith}
 use Rattle.search.proofs.Classes.{class-is}
 
@@ -50,47 +50,38 @@ sign-class Above o = refl
 
 -- ---- by what the slot met; x is the probe's suffix
 module _ (w : ℕ) (p : List ℕ) (h : Header) (i : ℕ) (k x : List ℕ) (d : x ≡ probeSuffix (frameOf p) k) where
-  pub compare-out : (q : Refusal) → metAt w p (h .end) x i ≡ Met·Refused q → compareWith w p h i k ≡ Compared·Refused q
+  pub compare-out : (q : Refusal) → metAlone w p (h .count) (h .end) x i ≡ Met·Refused q → compareWith w p h i k ≡ Compared·Refused q
   unfolding compareWith signed
   compare-out q e = rw (← d, e)
 
-  pub compare-met : (o : Order) (c : ℕ) → metAt w p (h .end) x i ≡ Met·Is o → c ≡ classNumber (classBy p (h .«prefix_len») k) → compareWith w p h i k ≡ Sign (signBy c o)
+  pub compare-met : (o : Order) (c : ℕ) → metAlone w p (h .count) (h .end) x i ≡ Met·Is o → c ≡ classNumber (classBy p (h .«prefix_len») k)
+      → compareWith w p h i k ≡ Sign (signBy c o)
   unfolding compareWith signed
   compare-met o c e f = rw (← d, e, ← f)
 
 -- ---- the call
 module _ (w : ℕ) (p : List ℕ) (i : ℕ) (k : List ℕ) where
-  pub compare-is : compareWith w p (headerOf p) i k ≡ compared (slotOrder w p k i)
-  unfolding compareWith headerOf signed metAt compared slotOrder visit
-  compare-is = rw (class-is p k) (go (within (numbersOf p .end) (slotPayload w (slotOf p i))))
+  compare-is : compareWith w p (headerOf p) i k ≡ judge (slotThere p i ∷ []) (compared (slotOrder w p k i)) Compared·Refused
+  unfolding compareWith headerOf signed metAlone compared slotOrder visit judge
+  compare-is = rw (class-is p k) (go (ltb i (numbersOf p .count)) (within (numbersOf p .end) (slotPayload w (slotOf p i))))
     where
       m : Order
       m = slotMeets p (slotOf p i) (probeSuffix (frameOf p) k)
 
-      go : (t : Bool)
-          → signed (classNumber (classOf (frameOf p) k)) (pick t (Met·Is m) (Met·Refused Payload))
-          ≡ compared (pick t (Met·Is (byClass (classOf (frameOf p) k) m)) (Met·Refused Payload))
-      go true = ap Sign (sign-class (classOf (frameOf p) k) m)
-      go false = refl
+      go : (t u : Bool)
+          → signed (classNumber (classOf (frameOf p) k)) (pick t (pick u (Met·Is m) (Met·Refused Payload)) (Met·Refused SlotNumber))
+          ≡ pick t (compared (pick u (Met·Is (byClass (classOf (frameOf p) k) m)) (Met·Refused Payload))) (Compared·Refused SlotNumber)
+      go true true = ap Sign (sign-class (classOf (frameOf p) k) m)
+      go true false = refl
+      go false u = refl
 
   pub compare-refused : (q : Refusal) → admitOf w p (length k) ≡ Admitted·Refused q → compareOf w p i k ≡ Compared·Refused q
   unfolding compareOf
   compare-refused q e = judge-append (probeChecks w p k) (slotThere p i ∷ []) _ Compared·Refused ∙ refused-admit w p (length k) q e _ Compared·Refused
 
-  pub compare-none : (h : Header) → admitOf w p (length k) ≡ Admitted·Is h → h .count ≤ i → compareOf w p i k ≡ Compared·Refused SlotNumber
-  unfolding compareOf judge
-  compare-none h e l =
+  pub compare-admitted : (h : Header) → admitOf w p (length k) ≡ Admitted·Is h → compareOf w p i k ≡ compareWith w p h i k
+  unfolding compareOf
+  compare-admitted h e =
       judge-append (probeChecks w p k) (slotThere p i ∷ []) _ Compared·Refused
       ∙ admitted-judge w p (length k) h e _ Compared·Refused
-      ∙ rw (le-ltb i (numbersOf p .count) (rw (← count-is w p (length k) h e) l))
-
-  pub compare-admitted : (h : Header) → admitOf w p (length k) ≡ Admitted·Is h → i < h .count → compareOf w p i k ≡ compareWith w p h i k
-  unfolding compareOf judge
-  compare-admitted h e l =
-      judge-append (probeChecks w p k) (slotThere p i ∷ []) _ Compared·Refused
-      ∙ admitted-judge w p (length k) h e _ Compared·Refused
-      ∙ rw (lt-ltb i (numbersOf p .count) (rw (← count-is w p (length k) h e) l)) (sym (rw (admitted w p (length k) h e .header) compare-is))
-
--- slot i lies within the body; n is the length of a key
-pub slot-lies : (w : ℕ) (p : List ℕ) (n i : ℕ) (h : Header) → admitOf w p n ≡ Admitted·Is h → i < h .count → 8 * i ≤ 16248
-slot-lies w p n i h e l = let r = slots-within w p n h e .1 in omega arith
+      ∙ sym (rw (admitted w p (length k) h e .header) compare-is)

@@ -13,7 +13,7 @@ use Rattle.paper.specs.declared.answers.Met.the-variants.{Is as Met·Is, Refuse
 use Rattle.paper.specs.declared.answers.Compared.{Compared}
 use Rattle.paper.specs.declared.answers.Compared.the-variants.{Sign, Refused as Compared·Refused}
 use Rattle.search.specs.Probe.{classBy, classNumber}
-use Rattle.search.specs.Slot.{metAt}
+use Rattle.search.specs.Slot.{metAlone}
 
 -- the sign by the class as a number
 unfoldable pub signBy : ℕ → Order → ℤ
@@ -24,4 +24,4 @@ signed c (Met·Is o) = Sign (signBy c o)
 signed c (Met·Refused r) = Compared·Refused r
 
 unfoldable pub compareWith : ℕ → List ℕ → Header → ℕ → List ℕ → Compared
-compareWith w p h i k = signed (classNumber (classBy p (h .«prefix_len») k)) (metAt w p (h .end) (probeSuffix (frameOf p) k) i)
+compareWith w p h i k = signed (classNumber (classBy p (h .«prefix_len») k)) (metAlone w p (h .count) (h .end) (probeSuffix (frameOf p) k) i)

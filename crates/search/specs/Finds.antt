@@ -7,26 +7,24 @@ use Rattle.keys.specs.Choice.{pick}
 use Rattle.paper.specs.Page.{frameOf}
 use Rattle.paper.specs.Searches.{probeSuffix, tested}
 use Rattle.paper.specs.declared.page.Header.{Header}
-use Rattle.paper.specs.declared.refusal.Refusal.{Refusal}
-use Rattle.paper.specs.declared.refusal.Refusal.the-variants.{Prefix, Payload}
+use Rattle.paper.specs.declared.refusal.Refusal.the-variants.{Prefix}
 use Rattle.paper.specs.declared.answers.Bound.{Bound}
 use Rattle.paper.specs.declared.answers.Bound.the-variants.{At as Bound·At, Refused as Bound·Refused}
 use Rattle.paper.specs.declared.answers.Found.{Found}
 use Rattle.paper.specs.declared.answers.Found.the-variants.{Smaller, Refused as Found·Refused}
 use Rattle.search.specs.Probe.{classBy, classNumber}
-use Rattle.search.specs.Slot.{metAt}
+use Rattle.search.specs.Slot.{metAlone}
 use Rattle.search.specs.Bounds.{searched}
-
-unfoldable pub whyNoBound : Bound → Refusal
-whyNoBound (Bound·At i) = Payload
-whyNoBound (Bound·Refused r) = r
 
 -- the slot at the bound tested against the suffix s
 unfoldable pub testedAt : ℕ → List ℕ → Header → List ℕ → Bound → Found
-testedAt w p h s (Bound·At i) = pick (ltb i (h .count)) (tested i (metAt w p (h .end) s i)) (Smaller i)
+testedAt w p h s (Bound·At i) = pick (ltb i (h .count)) (tested i (metAlone w p (h .count) (h .end) s i)) (Smaller i)
 testedAt w p h s (Bound·Refused r) = Found·Refused r
 
+-- find of the suffix s
+unfoldable pub findIn : ℕ → List ℕ → Header → List ℕ → Found
+findIn w p h s = testedAt w p h s (searched false w p h s)
+
+-- find of the key k
 unfoldable pub findWith : ℕ → List ℕ → Header → List ℕ → Found
-findWith w p h k =
-    let s = probeSuffix (frameOf p) k in
-    pick (eqb (classNumber (classBy p (h .«prefix_len») k)) 1) (testedAt w p h s (searched false w p h s)) (Found·Refused Prefix)
+findWith w p h k = pick (eqb (classNumber (classBy p (h .«prefix_len») k)) 1) (findIn w p h (probeSuffix (frameOf p) k)) (Found·Refused Prefix)

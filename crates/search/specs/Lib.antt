@@ -1,5 +1,6 @@
 pub mod Probe
 pub mod Slot
+pub mod Fence
 pub mod Bounds
 pub mod Finds
 pub mod Compares

@@ -4,7 +4,7 @@ ghost use mathlib.Core.Bool.{true, false};
 ghost use Prim.Native.Nat.{_*_, _≤_};
 ghost use lib.ListN.{length};
 ghost use Rattle.paper.specs.Calls.{boundOf};
-ghost use Rattle.search.specs.Bounds.{windowOf, searched, boundWith};
+ghost use Rattle.search.specs.Bounds.{windowOf, searched, boundWith, whyNoBound};
 use crate::halve;
 use crate::probe;
 use hint::hints;
@@ -14,6 +14,7 @@ use node::admit;
 use node::admit::Admitted;
 use paper::answers::Bound;
 use paper::page::Header;
+use paper::refusal::Refusal;
 
 // The slots to search: low..high.
 pub struct Window {
@@ -39,14 +40,24 @@ pub fn slots_to_search(p: &[u8], flag: u8, count: u16, head: u32) -> Window
     }
 }
 
-// The bound of a probe's suffix on a page with this header.
-pub(crate) fn search_slots(p: &[u8], h: Header, width: u8, suffix: &[u8], upper: bool) -> Bound
+// The bound of a probe's suffix on a page with this header: 14.
+pub fn search_slots(p: &[u8], h: Header, width: u8, suffix: &[u8], upper: bool) -> Bound
     requires { ⌜ (16384 ≤ length (now p)) × (8 * h .count ≤ 16256) ⌝ }
     ensures { λ r. ⌜ r ≡ searched upper width (now (p .entry)) h (now (suffix .entry)) ⌝ }
 {
     let head = head::head_int(suffix);
     let v = slots_to_search(p, h.flag, h.count, head);
     halve::halve(p, h.end, width, head, suffix, v.low, v.high, upper)
+}
+
+// The refusal of a bound that was not found.
+pub fn why_no_bound(b: Bound) -> Refusal
+    ensures { λ r. ⌜ r ≡ whyNoBound b ⌝ }
+{
+    match b {
+        Bound::At(_) => Refusal::Payload,
+        Bound::Refused(r) => r,
+    }
 }
 
 // The bound of a probe on a page with this header: 0 before the prefix, count after it.

@@ -1,6 +1,6 @@
 // A slot compared with a probe.
 ghost use mathlib.Core.Path.{_≡_};
-ghost use Prim.Native.Nat.{_*_, _≤_, _<_};
+ghost use Prim.Native.Nat.{_*_, _≤_};
 ghost use lib.ListN.{length};
 ghost use Rattle.paper.specs.Calls.{compareOf};
 ghost use Rattle.paper.specs.declared.answers.Compared.the-variants.{Sign};
@@ -8,14 +8,12 @@ ghost use Rattle.search.specs.Compares.{signBy, compareWith};
 use crate::halve;
 use crate::probe;
 use crate::slot;
-use keys::head;
 use keys::order::Order;
 use node::admit;
 use node::admit::Admitted;
 use paper::answers::Compared;
 use paper::answers::Met;
 use paper::page::Header;
-use paper::refusal::Refusal;
 
 // -1, 0 or 1 for a slot against a probe of that class: every slot is above a probe before the prefix, below one after it.
 fn sign(class: u8, o: Order) -> Compared
@@ -34,13 +32,13 @@ fn sign(class: u8, o: Order) -> Compared
     }
 }
 
-// Slot `i` of a page with this header against a probe. The slot is visited whatever the probe's class.
+// Slot `i` of a page with this header against a probe: 10, 14. The slot is visited whatever the probe's class.
 fn compare_with(p: &[u8], h: Header, width: u8, i: usize, key: &[u8]) -> Compared
-    requires { ⌜ (16384 ≤ length (now p)) × (8 * i ≤ 16248) × (h .«prefix_len» ≤ 16256) ⌝ }
+    requires { ⌜ (16384 ≤ length (now p)) × (8 * h .count ≤ 16256) × (h .«prefix_len» ≤ 16256) ⌝ }
     ensures { λ r. ⌜ r ≡ compareWith width (now (p .entry)) h i (now (key .entry)) ⌝ }
 {
     let suffix = probe::suffix(p, key);
-    let m = slot::meet_at(p, h.end, width, i, head::head_int(suffix), suffix);
+    let m = slot::meet_alone(p, h.count, h.end, width, i, suffix);
     let Met::Is(o) = m else {
         return Compared::Refused(halve::why_not_met(m));
     };
@@ -55,8 +53,5 @@ pub fn compare_slot(p: &[u8], width: u8, i: usize, key: &[u8]) -> Compared
     let Admitted::Is(h) = a else {
         return Compared::Refused(admit::why_not(a));
     };
-    if (h.count as usize) <= i {
-        return Compared::Refused(Refusal::SlotNumber);
-    }
     compare_with(p, h, width, i, key)
 }

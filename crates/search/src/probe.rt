@@ -2,7 +2,6 @@
 ghost use mathlib.Core.Path.{_≡_};
 ghost use Prim.Native.Nat.{_≤_};
 ghost use lib.ListN.{length};
-ghost use Rattle.keys.specs.Keys.{order};
 ghost use Rattle.paper.specs.Page.{frameOf};
 ghost use Rattle.paper.specs.Searches.{probeSuffix};
 ghost use Rattle.search.specs.Probe.{classBy, classNumber};
@@ -10,27 +9,6 @@ use keys::order::Order;
 use keys::shared;
 use node::key;
 use octets::number;
-
-// How `a` stands to `b`, by what they share: so `keys::order::compare` has one call in this crate, where slots meet a
-// probe.
-pub fn order_by_shared(a: &[u8], b: &[u8]) -> Order
-    ensures { λ r. ⌜ r ≡ order (now (a .entry)) (now (b .entry)) ⌝ }
-{
-    let n = shared::common_prefix_len(a, b);
-    if n == a.len() {
-        if n == b.len() {
-            return Order::Same;
-        }
-        return Order::Below;
-    }
-    if n == b.len() {
-        return Order::Above;
-    }
-    if a[n] < b[n] {
-        return Order::Below;
-    }
-    Order::Above
-}
 
 // Where the probe stands to the page's prefix: 0 before it, 1 within it, 2 after it.
 pub fn class(p: &[u8], prefix_len: u16, probe: &[u8]) -> u8
@@ -40,9 +18,9 @@ pub fn class(p: &[u8], prefix_len: u16, probe: &[u8]) -> u8
     let prefix = key::prefix(p, prefix_len);
     let n = prefix_len as usize;
     if probe.len() <= n {
-        return number_of(order_by_shared(probe, prefix));
+        return number_of(shared::order_by_shared(probe, prefix));
     }
-    number_of(order_by_shared(&probe[..n], prefix))
+    number_of(shared::order_by_shared(&probe[..n], prefix))
 }
 
 // The class as a number.

@@ -1,7 +1,7 @@
 //! Departures: inputs on which document 01 and the Rust differ, each run on
 //! both and held to what is written of it.
 
-mod scene;
+pub mod scene;
 mod table;
 
 use crate::asking::{self, Ask};

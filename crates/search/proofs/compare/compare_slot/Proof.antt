@@ -1,9 +1,9 @@
--- A page that is admitted has the numbers that `compare_with` asks for; else the refusal, and 10 before the slot is visited.
+-- A page that is admitted has the numbers that `compare_with` asks for; one that is not gives the refusal.
 use borrow.Author.Needs.{needs}
 use mathlib.Core.Path.{sym, _∙_}
 use Rattle.node.specs.Admit.{whyNot}
 use Rattle.node.proofs.Admits.{slots-within, prefix-lies}
-use Rattle.search.proofs.Signs.{compare-refused, compare-none, compare-admitted, slot-lies}
+use Rattle.search.proofs.Signs.{compare-refused, compare-admitted}
 use Rattle.search.proofs.compare.compare_slot.Statement.{statement}
 use Rattle.search.proofs.compare.compare_slot.Tie as tie
 
@@ -25,24 +25,14 @@ returns c =
     let told = c .before .enum-told .given .1 in
     rw (c .why-not .ensures, told) (sym (compare-refused _ _ _ _ _ (sym (c .before .before .before .admit .ensures) ∙ told)))
 
-cast-if1 : tie.Need-cast-if1
-cast-if1 c = search needs
-
-returns-2 : tie.Need-returns-2
-returns-2 c =
-    let read = c .before .before .before in
-    sym (compare-none _ _ _ _ _ (sym (read .before .before .admit .ensures) ∙ read .a .given .1) (c .if1 .taken))
-
 compare-with-requires : tie.Need-compare-with-requires
 compare-with-requires c κs =
-    let read = c .before .before .before in
-    let e = sym (read .before .before .admit .ensures) ∙ read .a .given .1 in
-    (slots-within _ _ _ _ e .0, slot-lies _ _ _ _ _ e (c .if1 .left), prefix-lies _ _ _ _ e)
+    let e = sym (c .before .before .before .admit .ensures) ∙ c .before .a .given .1 in
+    let n = slots-within _ _ _ _ e in
+    (n .0, n .1, prefix-lies _ _ _ _ e)
 
-returns-3 : tie.Need-returns-3
-returns-3 c =
-    let read = c .before .before .before .before in
-    c .compare-with .ensures ∙ sym (compare-admitted _ _ _ _ _ (sym (read .before .before .admit .ensures) ∙ read .a .given .1) (c .before .if1 .left))
+returns-2 : tie.Need-returns-2
+returns-2 c = c .compare-with .ensures ∙ sym (compare-admitted _ _ _ _ _ (sym (c .before .before .before .before .admit .ensures) ∙ c .before .before .a .given .1))
 
 pub compare-slot-spec : {M : Type 1} → statement M
 compare-slot-spec =
@@ -53,7 +43,5 @@ compare-slot-spec =
     enum-told
     why-not-requires
     returns
-    cast-if1
-    returns-2
     compare-with-requires
-    returns-3)
+    returns-2)

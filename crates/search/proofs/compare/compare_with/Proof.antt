@@ -9,11 +9,8 @@ use Rattle.search.proofs.compare.compare_with.Tie as tie
 suffix-requires : tie.Need-suffix-requires
 suffix-requires c κs = search needs
 
-head-int-requires : tie.Need-head-int-requires
-head-int-requires c κs = search needs
-
-meet-at-requires : tie.Need-meet-at-requires
-meet-at-requires c κs = search needs
+meet-alone-requires : tie.Need-meet-alone-requires
+meet-alone-requires c κs = search needs
 
 enum-known-m : tie.Need-enum-known-m
 enum-known-m c = search needs
@@ -29,7 +26,7 @@ unfolding whyNotMet
 returns c =
     let told = c .before .enum-told .given .1 in
     let met = c .before .before .before in
-    rw (c .why-not-met .ensures, told) (sym (compare-out _ _ _ _ _ _ (met .before .before .suffix .ensures) _ (sym (met .meet-at .ensures) ∙ told)))
+    rw (c .why-not-met .ensures, told) (sym (compare-out _ _ _ _ _ _ (met .before .suffix .ensures) _ (sym (met .meet-alone .ensures) ∙ told)))
 
 class-requires : tie.Need-class-requires
 class-requires c κs = search needs
@@ -40,15 +37,15 @@ sign-requires c κs = search needs
 returns-2 : tie.Need-returns-2
 returns-2 c =
     let met = c .before .before .before .before .before in
-    c .sign .ensures ∙ sym (compare-met _ _ _ _ _ _ (met .before .before .suffix .ensures) _ _ (sym (met .meet-at .ensures) ∙ c .before .before .before .m .given .1) (c .before .class .ensures))
+    c .sign .ensures
+    ∙ sym (compare-met _ _ _ _ _ _ (met .before .suffix .ensures) _ _ (sym (met .meet-alone .ensures) ∙ c .before .before .before .m .given .1) (c .before .class .ensures))
 
 pub compare-with-spec : {M : Type 1} → statement M
 compare-with-spec =
     tie.close
     (tie.spec
     suffix-requires
-    head-int-requires
-    meet-at-requires
+    meet-alone-requires
     enum-known-m
     enum-told
     why-not-met-requires

@@ -1,8 +1,8 @@
 -- Each arm answers the case of `whyNoBound` that it is.
 use borrow.Author.Needs.{needs}
-use Rattle.search.specs.Finds.{whyNoBound}
-use Rattle.search.proofs.find.why_no_bound.Statement.{statement}
-use Rattle.search.proofs.find.why_no_bound.Tie as tie
+use Rattle.search.specs.Bounds.{whyNoBound}
+use Rattle.search.proofs.bound.why_no_bound.Statement.{statement}
+use Rattle.search.proofs.bound.why_no_bound.Tie as tie
 
 enum-told : tie.Need-enum-told
 enum-told c = search needs

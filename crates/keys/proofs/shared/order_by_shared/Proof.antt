@@ -1,8 +1,8 @@
 -- Where one key is all shared the lengths decide, else the first bytes that are not.
 use borrow.Author.Needs.{needs}
-use Rattle.search.proofs.Classes.{shared-same, shared-below, shared-above, shared-left, shared-right, differ-below, differ-above}
-use Rattle.search.proofs.probe.order_by_shared.Statement.{statement}
-use Rattle.search.proofs.probe.order_by_shared.Tie as tie
+use Rattle.keys.proofs.Sharing.{shared-same, shared-below, shared-above, shared-left, shared-right, differ-below, differ-above}
+use Rattle.keys.proofs.shared.order_by_shared.Statement.{statement}
+use Rattle.keys.proofs.shared.order_by_shared.Tie as tie
 
 common-prefix-len-requires : tie.Need-common-prefix-len-requires
 common-prefix-len-requires c κs = search needs

@@ -1,0 +1,2 @@
+// The child number.
+pub mod lookup;

@@ -1,0 +1,29 @@
+-- One answer for each of the three orders.
+use borrow.Author.Needs.{needs}
+use Rattle.paper.specs.Lists.{isBelow}
+use Rattle.search.proofs.fence.is_below.Statement.{statement}
+use Rattle.search.proofs.fence.is_below.Tie as tie
+
+enum-told : tie.Need-enum-told
+enum-told c = search needs
+
+enum-told-2 : tie.Need-enum-told-2
+enum-told-2 c = search needs
+
+enum-told-3 : tie.Need-enum-told-3
+enum-told-3 c = search needs
+
+returns : tie.Need-returns
+unfolding isBelow
+returns c = rw (c .enum-told .given .1)
+
+returns-2 : tie.Need-returns-2
+unfolding isBelow
+returns-2 c = rw (c .enum-told2 .given .1)
+
+returns-3 : tie.Need-returns-3
+unfolding isBelow
+returns-3 c = rw (c .enum-told3 .given .1)
+
+pub is-below-spec : {M : Type 1} → statement M
+is-below-spec = tie.close (tie.spec enum-told enum-told-2 enum-told-3 returns returns-2 returns-3)

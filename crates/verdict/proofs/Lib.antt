@@ -1,0 +1,10 @@
+pub mod Pieced
+pub mod Covers
+pub mod Overlaps
+pub mod Suffixes
+pub mod Tallied
+pub mod Ruled
+pub mod Judged
+pub mod Broken
+pub mod Fitting
+pub mod Fitness

@@ -1,0 +1,5 @@
+pub mod Pieces
+pub mod Marks
+pub mod Tally
+pub mod Honest
+pub mod Fits

@@ -1,0 +1,9 @@
+// The two verdicts, and pages that are fit.
+mod cover;
+pub mod fit;
+pub mod layout;
+mod overlap;
+mod pieces;
+mod rules;
+mod suffix;
+mod tally;
