@@ -4,12 +4,14 @@ ghost use lib.ListN.{length};
 use crate::registers;
 use crate::wire;
 use crate::wire::Request;
+use child::lookup;
 use node::entry;
 use node::key;
 use node::space;
 use node::trailing;
 use octets::number;
 use paper::answers::Bound;
+use paper::answers::Child;
 use paper::answers::Compared;
 use paper::answers::Copied;
 use paper::answers::EntryRead;
@@ -19,9 +21,12 @@ use paper::answers::Needed;
 use paper::answers::Space;
 use paper::answers::SpaceRead;
 use paper::answers::Trailing;
+use paper::answers::Verdict;
 use search::bound;
 use search::compare;
 use search::find;
+use verdict::fit;
+use verdict::layout;
 
 // Answers a request whose runs stand at the front of `first` and `second`.
 pub(crate) fn answer(store: &mut [u8], first: &[u8], second: &mut [u8], q: Request) -> bool
@@ -61,6 +66,12 @@ fn on_page(page: &[u8], key: &[u8], second: &mut [u8], q: Request) -> bool {
     if q.call == 15 {
         return space_of(page);
     }
+    if q.call == 18 {
+        return judged(layout::layout_verdict(page, q.width));
+    }
+    if q.call == 19 {
+        return judged(fit::fit_verdict(page, q.width));
+    }
     if q.call == 21 {
         return wire::pair(digest(page), 0);
     }
@@ -80,6 +91,9 @@ fn on_key(page: &[u8], key: &[u8], q: Request) -> bool {
     }
     if q.call == 10 {
         return compared(compare::compare_slot(page, q.width, q.a as usize, key));
+    }
+    if q.call == 11 {
+        return child_told(lookup::child(page, key));
     }
     wire::broken()
 }
@@ -118,6 +132,30 @@ fn signed_word(s: i8) -> u64 {
         return 0;
     }
     1
+}
+
+// Child: the slot, or -1, and the child's value.
+fn child_told(c: Child) -> bool {
+    match c {
+        Child::At(i, v) => wire::pair(slot_word(i), v),
+        Child::Refused(r) => wire::refused(r),
+    }
+}
+
+// -1 or a slot number as a number of 64 bits, in two's complement.
+fn slot_word(i: i32) -> u64 {
+    if i < 0 {
+        return 18446744073709551615;
+    }
+    i as u64
+}
+
+// A verdict.
+fn judged(v: Verdict) -> bool {
+    match v {
+        Verdict::Is(n) => wire::pair(n as u64, 0),
+        Verdict::Refused(r) => wire::refused(r),
+    }
 }
 
 // Entry: its value, and its key by way of `out`.

@@ -1,18 +1,32 @@
-// Keys of entries: prefix and suffix where they stand on the page, and the whole key copied out.
+// Keys: which of two is below; prefix and suffix of an entry's where they stand on the page, and the whole key copied out.
 ghost use mathlib.Core.Path.{_≡_};
 ghost use mathlib.Core.List.{_++_};
 ghost use Prim.Native.Nat.{_+_, _≤_};
 ghost use lib.ListN.{length, take};
 ghost use Rattle.octets.specs.Bytes.{bigBytes, put};
+ghost use Rattle.paper.specs.Lists.{less};
 ghost use Rattle.paper.specs.Page.{prefixOf, suffixOf, bodyBytes};
 ghost use Rattle.paper.specs.Calls.{copyOf, copyBuffer};
 use crate::entry;
 use crate::entry::Opened;
+use keys::order::Order;
+use keys::shared;
 use octets::runs;
 use paper::answers::Copied;
 use paper::page::Header;
 use paper::page::Slot;
 use paper::refusal::Refusal;
+
+// Whether one key is below another.
+pub fn below(a: &[u8], b: &[u8]) -> bool
+    ensures { λ r. ⌜ r ≡ less (now (a .entry)) (now (b .entry)) ⌝ }
+{
+    match shared::order_by_shared(a, b) {
+        Order::Below => true,
+        Order::Same => false,
+        Order::Above => false,
+    }
+}
 
 // The page's prefix: inline, or the body's last bytes.
 pub fn prefix(p: &[u8], prefix_len: u16) -> &[u8]

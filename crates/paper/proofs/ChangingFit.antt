@@ -185,7 +185,7 @@ module _ (w : ℕ) (p : List ℕ) (i : ℕ) (s : List ℕ) (F : Fit w (viewOf w 
   needs-le = omega (arith, effective-is w (viewOf w p) (F .r8))
 
   -- effective holds the bytes that are dropped
-  dropped : bodyBytes 4 (O .len) ≤ numbersOf p .effective
+  pub dropped : bodyBytes 4 (O .len) ≤ numbersOf p .effective
   dropped = omega (arith, own-need, needs-le, sum-at (λ (r : Row). need w (r .slot .len)) i noRow (viewOf w p .rows) (rw (length-rows w p) h))
 
   effective-moves : K .effective + need w (getD (viewOf w p .rows) i noRow .slot .len) ≡ numbersOf p .effective + need w (length s)

@@ -12,3 +12,4 @@ pub mod Calls
 pub mod Views
 pub mod Demand
 pub mod Printed
+pub mod Headers

@@ -8,7 +8,6 @@ use borrow.Author.Tests.{lt-leb, eq-eqb, ne-eqb}
 use lib.ListN.{take, take-append-drop}
 use Rattle.octets.specs.Bytes.{part, bigBytes}
 use Rattle.keys.specs.Keys.{order}
-use Rattle.keys.specs.declared.order.Order.{Order}
 use Rattle.keys.proofs.Orders.{order-append, sameList-eq}
 use Rattle.paper.specs.Lists.{isBelow, less}
 use Rattle.paper.specs.Page.{suffixOf, frameOf, headerOf}
@@ -20,15 +19,14 @@ use Rattle.paper.specs.declared.page.Header.{Header}
 use Rattle.node.proofs.Spelling.{suffix-short}
 use Rattle.search.specs.Fence.{insideBy}
 
--- ---- a fence; l is its suffix as code found it, o and r what was made of it
-module _ (p x l : List ℕ) (s : Slot) (o : Order) (r : Bool) (e : o ≡ order x l) (f : r ≡ isBelow o) where
+-- ---- a fence; l is its suffix as code found it, r whether x is below it
+module _ (p x l : List ℕ) (s : Slot) (r : Bool) (e : r ≡ less x l) where
   pub below-short : (v : List ℕ) → s .len ≤ 4 → v ≡ bigBytes 4 (s .head) → l ≡ take (s .len) v → r ≡ less x (suffixOf p s)
-  unfolding less
-  below-short v h g k = f ∙ rw (e, k, g, ← suffix-short p s h)
+  below-short v h g k = e ∙ ap (less x) (k ∙ ap (take (s .len)) g ∙ sym (suffix-short p s h))
 
   pub below-long : 4 < s .len → l ≡ part (s .len) p (96 + s .offset) → r ≡ less x (suffixOf p s)
-  unfolding less suffixOf
-  below-long h k = f ∙ rw (e, k, lt-leb (s .len) 4 h)
+  unfolding suffixOf
+  below-long h k = rw (lt-leb (s .len) 4 h) (e ∙ ap (less x) k)
 
 -- ---- both fences; a and b are what was found of the lower and the upper one
 module _ (p : List ℕ) (h : Header) (x : List ℕ) (a : Bool) (e : a ≡ less x (suffixOf p (h .lower))) where

@@ -1,26 +1,13 @@
 // The fences.
 ghost use mathlib.Core.Path.{_≡_};
 ghost use lib.ListN.{length};
-ghost use Rattle.paper.specs.Lists.{isBelow, less};
+ghost use Rattle.paper.specs.Lists.{less};
 ghost use Rattle.paper.specs.Page.{suffixOf};
 ghost use Rattle.search.specs.Fence.{LongLies, insideBy};
-use keys::shared;
 use crate::slot;
-use keys::order::Order;
 use node::key;
 use paper::page::Header;
 use paper::page::Slot;
-
-// Whether an order is `Below`.
-fn is_below(o: Order) -> bool
-    ensures { λ r. ⌜ r ≡ isBelow o ⌝ }
-{
-    match o {
-        Order::Below => true,
-        Order::Same => false,
-        Order::Above => false,
-    }
-}
 
 // Whether a suffix is below a fence's: a short one's bytes are its head's, whatever its head pads.
 fn below_fence(p: &[u8], s: Slot, suffix: &[u8]) -> bool
@@ -30,9 +17,9 @@ fn below_fence(p: &[u8], s: Slot, suffix: &[u8]) -> bool
     let n = s.len as usize;
     if n <= 4 {
         let four = key::head_bytes(s.head);
-        return is_below(shared::order_by_shared(suffix, &four[..n]));
+        return key::below(suffix, &four[..n]);
     }
-    is_below(shared::order_by_shared(suffix, slot::long_suffix(p, s)))
+    key::below(suffix, slot::long_suffix(p, s))
 }
 
 // Whether a probe's suffix lies inside the fences of a page with this header: the lower one included, the upper one excluded; an

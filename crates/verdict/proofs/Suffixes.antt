@@ -15,7 +15,7 @@ use Rattle.octets.proofs.Alike.{be-part}
 use Rattle.octets.proofs.Put.{take-bytes}
 use Rattle.octets.proofs.Part.{length-part-le}
 use Rattle.octets.proofs.Big.{bigBytes-bytes, bigBytes-be}
-use Rattle.keys.specs.Keys.{byNumber, order, headOf}
+use Rattle.keys.specs.Keys.{byNumber, headOf}
 use Rattle.keys.specs.declared.order.Order.the-variants.{Same}
 use Rattle.keys.proofs.Numbers.{tri, byNumber-lt, byNumber-eq, byNumber-gt}
 use Rattle.keys.proofs.Heads.{head-differ, head-lengths}
@@ -130,7 +130,6 @@ module _ (p : List ℕ) (bytes : IsBytes p) (a b : Slot) (la : a .head < 256 ^ 4
     below-long h k = sym (lengths (inr k) ∙ le-ltb (a .len) (b .len) (omega arith))
 
 -- both long: by bytes
-pub below-bytes : (p x y : List ℕ) (a b : Slot) (t : Bool) → x ≡ suffixOf p a → y ≡ suffixOf p b → t ≡ isBelow (order x y)
+pub below-bytes : (p x y : List ℕ) (a b : Slot) (t : Bool) → x ≡ suffixOf p a → y ≡ suffixOf p b → t ≡ less x y
     → t ≡ less (suffixOf p a) (suffixOf p b)
-unfolding less
 below-bytes p x y a b t ex ey e = rw (← ex, ← ey) e

@@ -3,13 +3,12 @@ ghost use mathlib.Core.Path.{_≡_};
 ghost use Prim.Native.Nat.{_+_, _^_, _≤_, _<_};
 ghost use lib.ListN.{length, take};
 ghost use Rattle.octets.specs.Bytes.{bigBytes};
-ghost use Rattle.keys.specs.Keys.{headOf, order};
-ghost use Rattle.paper.specs.Lists.{isBelow, less};
+ghost use Rattle.keys.specs.Keys.{headOf};
+ghost use Rattle.paper.specs.Lists.{less};
 ghost use Rattle.paper.specs.Page.{suffixOf};
 ghost use Rattle.verdict.specs.Honest.{Honest};
 ghost use Rattle.verdict.specs.Tally.{honestOf};
-use keys::order::Order;
-use keys::shared;
+use node::key;
 use octets::number;
 use paper::page::Slot;
 
@@ -56,17 +55,6 @@ pub fn honest(p: &[u8], s: Slot) -> Slot
     }
 }
 
-// Whether an order is below.
-fn is_below(o: Order) -> bool
-    ensures { λ r. ⌜ r ≡ isBelow o ⌝ }
-{
-    match o {
-        Order::Below => true,
-        Order::Same => false,
-        Order::Above => false,
-    }
-}
-
 // Whether the bytes of one long suffix are below those of another.
 fn bytes_below(p: &[u8], a: Slot, b: Slot) -> bool
     requires { ⌜ (4 < a .len) × (4 < b .len) × (96 + a .offset + a .len ≤ length (now p)) × (96 + b .offset + b .len ≤ length (now p)) ⌝ }
@@ -74,10 +62,7 @@ fn bytes_below(p: &[u8], a: Slot, b: Slot) -> bool
 {
     let i = 96 + (a.offset as usize);
     let j = 96 + (b.offset as usize);
-    is_below(shared::order_by_shared(
-        &p[i..i + (a.len as usize)],
-        &p[j..j + (b.len as usize)],
-    ))
+    key::below(&p[i..i + (a.len as usize)], &p[j..j + (b.len as usize)])
 }
 
 // Whether the suffix of a slot is below another's, of slots with the heads that their suffixes have: by heads; if equal and

@@ -15,33 +15,27 @@ head-bytes-requires c κs = search needs
 array-share-prefix-four : tie.Need-array-share-prefix-four
 array-share-prefix-four c = search needs
 
-slice-aggregate-order-by-shared : tie.Need-slice-aggregate-order-by-shared
-slice-aggregate-order-by-shared c = sym (length-four _ _ _ (c .before .head-bytes .ensures) (c .before .before .if1 .taken))
+slice-aggregate-below : tie.Need-slice-aggregate-below
+slice-aggregate-below c = sym (length-four _ _ _ (c .before .head-bytes .ensures) (c .before .before .if1 .taken))
 
-order-by-shared-requires : tie.Need-order-by-shared-requires
-order-by-shared-requires c κs = search needs
-
-is-below-requires : tie.Need-is-below-requires
-is-below-requires c κs = search needs
+below-requires : tie.Need-below-requires
+below-requires c κs = search needs
 
 returns : tie.Need-returns
 returns c =
-    let four = c .before .before .before in
-    below-short _ _ _ _ _ _ (c .before .order-by-shared .ensures) (c .is-below .ensures) _ (four .before .if1 .taken) (four .head-bytes .ensures) refl
+    let four = c .before .before in
+    below-short _ _ _ _ _ (c .below .ensures) _ (four .before .if1 .taken) (four .head-bytes .ensures) refl
 
 long-suffix-requires : tie.Need-long-suffix-requires
 long-suffix-requires c κs = c .before .before .before .before .pre (c .if1 .left)
 
-order-by-shared-requires-2 : tie.Need-order-by-shared-requires-2
-order-by-shared-requires-2 c κs = search needs
-
-is-below-requires-2 : tie.Need-is-below-requires-2
-is-below-requires-2 c κs = search needs
+below-requires-2 : tie.Need-below-requires-2
+below-requires-2 c κs = search needs
 
 returns-2 : tie.Need-returns-2
 returns-2 c =
-    let long = c .before .before in
-    below-long _ _ _ _ _ _ (c .before .order-by-shared2 .ensures) (c .is-below2 .ensures) (long .before .if1 .left) (long .long-suffix .ensures)
+    let long = c .before in
+    below-long _ _ _ _ _ (c .below2 .ensures) (long .before .if1 .left) (long .long-suffix .ensures)
 
 pub below-fence-spec : {M : Type 1} → statement M
 below-fence-spec =
@@ -50,11 +44,9 @@ below-fence-spec =
     cast-n
     head-bytes-requires
     array-share-prefix-four
-    slice-aggregate-order-by-shared
-    order-by-shared-requires
-    is-below-requires
+    slice-aggregate-below
+    below-requires
     returns
     long-suffix-requires
-    order-by-shared-requires-2
-    is-below-requires-2
+    below-requires-2
     returns-2)

@@ -1,7 +1,5 @@
 -- The parts of the page are the two suffixes.
 use borrow.Author.Needs.{needs}
-use mathlib.Core.Path.{ap, _∙_}
-use Rattle.paper.specs.Lists.{isBelow}
 use Rattle.node.proofs.Spelling.{suffix-long}
 use Rattle.verdict.proofs.Suffixes.{below-bytes}
 use Rattle.verdict.proofs.suffix.bytes_below.Statement.{statement}
@@ -19,46 +17,43 @@ cast-j c = search needs
 add-j : tie.Need-add-j
 add-j c = search needs
 
-cast-order-by-shared : tie.Need-cast-order-by-shared
-cast-order-by-shared c = search needs
+cast-below : tie.Need-cast-below
+cast-below c = search needs
 
-add-order-by-shared : tie.Need-add-order-by-shared
-add-order-by-shared c = search needs
+add-below : tie.Need-add-below
+add-below c = search needs
 
-sub-order-by-shared : tie.Need-sub-order-by-shared
-sub-order-by-shared c = search needs
+sub-below : tie.Need-sub-below
+sub-below c = search needs
 
-part-order-by-shared-start : tie.Need-part-order-by-shared-start
-part-order-by-shared-start c = search needs
+part-below-start : tie.Need-part-below-start
+part-below-start c = search needs
 
-part-order-by-shared-end : tie.Need-part-order-by-shared-end
-part-order-by-shared-end c = c .before .before .before .before .pre .2
+part-below-end : tie.Need-part-below-end
+part-below-end c = c .before .before .before .before .pre .2
 
-cast-order-by-shared-2 : tie.Need-cast-order-by-shared-2
-cast-order-by-shared-2 c = search needs
+cast-below-2 : tie.Need-cast-below-2
+cast-below-2 c = search needs
 
-add-order-by-shared-2 : tie.Need-add-order-by-shared-2
-add-order-by-shared-2 c = search needs
+add-below-2 : tie.Need-add-below-2
+add-below-2 c = search needs
 
-sub-order-by-shared-2 : tie.Need-sub-order-by-shared-2
-sub-order-by-shared-2 c = search needs
+sub-below-2 : tie.Need-sub-below-2
+sub-below-2 c = search needs
 
-part-order-by-shared-start-2 : tie.Need-part-order-by-shared-start-2
-part-order-by-shared-start-2 c = search needs
+part-below-start-2 : tie.Need-part-below-start-2
+part-below-start-2 c = search needs
 
-part-order-by-shared-end-2 : tie.Need-part-order-by-shared-end-2
-part-order-by-shared-end-2 c = c .before .before .before .before .before .before .pre .3
+part-below-end-2 : tie.Need-part-below-end-2
+part-below-end-2 c = c .before .before .before .before .before .before .pre .3
 
-order-by-shared-requires : tie.Need-order-by-shared-requires
-order-by-shared-requires c κs = search needs
-
-is-below-requires : tie.Need-is-below-requires
-is-below-requires c κs = search needs
+below-requires : tie.Need-below-requires
+below-requires c κs = search needs
 
 returns : tie.Need-returns
 returns c =
-    let start = c .before .before .before .before .before .before .before .before .before in
-    below-bytes _ _ _ _ _ _ (suffix-long _ _ (start .pre .0)) (suffix-long _ _ (start .pre .1)) (c .is-below .ensures ∙ ap isBelow (c .before .order-by-shared .ensures))
+    let start = c .before .before .before .before .before .before .before .before in
+    below-bytes _ _ _ _ _ _ (suffix-long _ _ (start .pre .0)) (suffix-long _ _ (start .pre .1)) (c .below .ensures)
 
 pub bytes-below-spec : {M : Type 1} → statement M
 bytes-below-spec =
@@ -68,16 +63,15 @@ bytes-below-spec =
     add-i
     cast-j
     add-j
-    cast-order-by-shared
-    add-order-by-shared
-    sub-order-by-shared
-    part-order-by-shared-start
-    part-order-by-shared-end
-    cast-order-by-shared-2
-    add-order-by-shared-2
-    sub-order-by-shared-2
-    part-order-by-shared-start-2
-    part-order-by-shared-end-2
-    order-by-shared-requires
-    is-below-requires
+    cast-below
+    add-below
+    sub-below
+    part-below-start
+    part-below-end
+    cast-below-2
+    add-below-2
+    sub-below-2
+    part-below-start-2
+    part-below-end-2
+    below-requires
     returns)

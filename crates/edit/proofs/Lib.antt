@@ -1,0 +1,2 @@
+pub mod BegunRuns
+pub mod Begun

@@ -1,0 +1,3 @@
+// Edits: the calls of document 01 that change a page.
+pub mod begin;
+mod fences;
