@@ -1,5 +1,7 @@
 //! Lays doradb's files out for `src/lib.rs`: three files are compiled where
-//! they stand, and a few items are cut unchanged from three others.
+//! they stand, and a few items are cut unchanged from three others. For timing,
+//! the three files are compiled without the attribute that keeps the layout
+//! verdict out of release builds.
 
 use std::path::{Path, PathBuf};
 use std::{env, fs};
@@ -36,6 +38,9 @@ const CUT: [(&str, &str, &[&str]); 3] = [
     ("index/util.rs", "", &["pub(crate) trait Maskable"]),
 ];
 
+/// What keeps the layout verdict out of a build without debug assertions.
+const CHECKED_ONLY: &str = "#[cfg(any(test, debug_assertions))]";
+
 fn main() {
     println!("cargo::rerun-if-env-changed=DORADB_SRC");
     println!("cargo::rerun-if-changed=../doradb/build.rs");
@@ -49,8 +54,13 @@ fn lay_out() -> Result<(), String> {
     let out = PathBuf::from(env::var_os("OUT_DIR").expect("cargo sets OUT_DIR"));
     let mut modules = String::new();
     for name in WHOLE {
-        let path = source.join(format!("index/btree/{name}.rs"));
-        read(&path)?;
+        let mut path = source.join(format!("index/btree/{name}.rs"));
+        let text = read(&path)?;
+        if env::var_os("CARGO_FEATURE_TIMED").is_some() {
+            path = out.join(format!("{name}.rs"));
+            let lines = text.lines().filter(|line| line.trim() != CHECKED_ONLY);
+            write(&path, &lines.collect::<Vec<_>>().join("\n"))?;
+        }
         modules += &format!("#[path = {path:?}]\nmod {name};\n");
     }
     write(&out.join("whole.rs"), &modules)?;

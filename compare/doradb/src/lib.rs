@@ -23,6 +23,8 @@
 
 pub mod oracle;
 mod stubs;
+#[cfg(feature = "timed")]
+pub mod timed;
 
 use stubs::{buffer, file, id, layout, memcmp, row};
 

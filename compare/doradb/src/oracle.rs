@@ -30,7 +30,7 @@ impl Page {
         &self.0
     }
 
-    fn node(&self) -> &BTreeNode {
+    pub(crate) fn node(&self) -> &BTreeNode {
         layout::ref_from_bytes(&self.0)
     }
 

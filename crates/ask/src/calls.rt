@@ -5,23 +5,16 @@ use crate::registers;
 use crate::wire;
 use crate::wire::Request;
 use child::lookup;
+use dorgumanna::answer;
 use node::entry;
 use node::key;
 use node::space;
 use node::trailing;
 use octets::number;
-use paper::answers::Bound;
-use paper::answers::Child;
-use paper::answers::Compared;
 use paper::answers::Copied;
 use paper::answers::EntryRead;
-use paper::answers::Forecast;
-use paper::answers::Found;
-use paper::answers::Needed;
 use paper::answers::Space;
 use paper::answers::SpaceRead;
-use paper::answers::Trailing;
-use paper::answers::Verdict;
 use search::bound;
 use search::compare;
 use search::find;
@@ -34,10 +27,10 @@ pub(crate) fn answer(store: &mut [u8], first: &[u8], second: &mut [u8], q: Reque
 {
     let key = wire::front(first, q.n);
     if q.call == 16 {
-        return need(q, key);
+        return wire::tell(answer::needed(space::need(q.width, q.a as usize, key)));
     }
     if q.call == 17 {
-        return forecast(key, wire::front(second, q.m));
+        return wire::tell(answer::forecast(space::forecast(key, wire::front(second, q.m))));
     }
     if 3 < q.page {
         return wire::broken();
@@ -61,16 +54,17 @@ fn on_page(page: &[u8], key: &[u8], second: &mut [u8], q: Request) -> bool {
         return wire::reply(0, 0, 0, page);
     }
     if q.call == 14 {
-        return trailing_of(page, q);
+        let t = trailing::trailing_id(page, q.width, q.a as usize);
+        return wire::tell(answer::trailing(t));
     }
     if q.call == 15 {
         return space_of(page);
     }
     if q.call == 18 {
-        return judged(layout::layout_verdict(page, q.width));
+        return wire::tell(answer::verdict(layout::layout_verdict(page, q.width)));
     }
     if q.call == 19 {
-        return judged(fit::fit_verdict(page, q.width));
+        return wire::tell(answer::verdict(fit::fit_verdict(page, q.width)));
     }
     if q.call == 21 {
         return wire::pair(digest(page), 0);
@@ -81,81 +75,22 @@ fn on_page(page: &[u8], key: &[u8], second: &mut [u8], q: Request) -> bool {
 // Answers a call that holds a key against a page.
 fn on_key(page: &[u8], key: &[u8], q: Request) -> bool {
     if q.call == 7 {
-        return found(find::find(page, q.width, key));
+        return wire::tell(answer::found(find::find(page, q.width, key)));
     }
     if q.call == 8 {
-        return bounded(bound::lower_bound(page, q.width, key));
+        return wire::tell(answer::bounded(bound::lower_bound(page, q.width, key)));
     }
     if q.call == 9 {
-        return bounded(bound::upper_bound(page, q.width, key));
+        return wire::tell(answer::bounded(bound::upper_bound(page, q.width, key)));
     }
     if q.call == 10 {
-        return compared(compare::compare_slot(page, q.width, q.a as usize, key));
+        let c = compare::compare_slot(page, q.width, q.a as usize, key);
+        return wire::tell(answer::compared(c));
     }
     if q.call == 11 {
-        return child_told(lookup::child(page, key));
+        return wire::tell(answer::child(lookup::child(page, key)));
     }
     wire::broken()
-}
-
-// Find: the slot and 1, or the number of smaller keys and 0.
-fn found(f: Found) -> bool {
-    match f {
-        Found::Equal(i) => wire::pair(i as u64, 1),
-        Found::Smaller(i) => wire::pair(i as u64, 0),
-        Found::Refused(r) => wire::refused(r),
-    }
-}
-
-// A bound.
-fn bounded(b: Bound) -> bool {
-    match b {
-        Bound::At(i) => wire::pair(i as u64, 0),
-        Bound::Refused(r) => wire::refused(r),
-    }
-}
-
-// Compare: -1, 0 or 1.
-fn compared(c: Compared) -> bool {
-    match c {
-        Compared::Sign(s) => wire::pair(signed_word(s), 0),
-        Compared::Refused(r) => wire::refused(r),
-    }
-}
-
-// -1, 0 or 1 as a number of 64 bits, in two's complement.
-fn signed_word(s: i8) -> u64 {
-    if s < 0 {
-        return 18446744073709551615;
-    }
-    if s == 0 {
-        return 0;
-    }
-    1
-}
-
-// Child: the slot, or -1, and the child's value.
-fn child_told(c: Child) -> bool {
-    match c {
-        Child::At(i, v) => wire::pair(slot_word(i), v),
-        Child::Refused(r) => wire::refused(r),
-    }
-}
-
-// -1 or a slot number as a number of 64 bits, in two's complement.
-fn slot_word(i: i32) -> u64 {
-    if i < 0 {
-        return 18446744073709551615;
-    }
-    i as u64
-}
-
-// A verdict.
-fn judged(v: Verdict) -> bool {
-    match v {
-        Verdict::Is(n) => wire::pair(n as u64, 0),
-        Verdict::Refused(r) => wire::refused(r),
-    }
 }
 
 // Entry: its value, and its key by way of `out`.
@@ -184,14 +119,6 @@ fn copy_of(page: &[u8], q: Request, second: &mut [u8]) -> bool {
     }
 }
 
-// Trailing id.
-fn trailing_of(page: &[u8], q: Request) -> bool {
-    match trailing::trailing_id(page, q.width, q.a as usize) {
-        Trailing::Id(v) => wire::pair(v, 0),
-        Trailing::Refused(r) => wire::refused(r),
-    }
-}
-
 // The space numbers.
 fn space_of(page: &[u8]) -> bool {
     match space::space_numbers(page) {
@@ -211,22 +138,6 @@ fn space_told(s: Space) -> bool {
     number::write_u64(&mut out, 40, s.reclaimable);
     number::write_u64(&mut out, 48, s.compacted);
     wire::reply(0, 0, 0, &out)
-}
-
-// Need of an entry.
-fn need(q: Request, key: &[u8]) -> bool {
-    match space::need(q.width, q.a as usize, key) {
-        Needed::Bytes(n) => wire::pair(n, 0),
-        Needed::Refused(r) => wire::refused(r),
-    }
-}
-
-// Forecast from two fences: prefix length, and space.
-fn forecast(lower: &[u8], upper: &[u8]) -> bool {
-    match space::forecast(lower, upper) {
-        Forecast::Are(n, bytes) => wire::pair(n as u64, bytes as u64),
-        Forecast::Refused(r) => wire::refused(r),
-    }
 }
 
 // Two sums over all bytes, the first in the upper 32 bits and the second in the lower.

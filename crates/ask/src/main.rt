@@ -4,7 +4,6 @@ ghost use mathlib.Core.Path.{_≡_};
 ghost use lib.ListN.{length};
 
 mod calls;
-mod numbers;
 mod registers;
 mod wire;
 

@@ -1,5 +1,6 @@
 // Requests from standard input, and answers to standard output. Numbers are little-endian.
-use crate::numbers;
+use dorgumanna::answer;
+use dorgumanna::answer::Answer;
 use libc::STDIN_FILENO;
 use libc::STDOUT_FILENO;
 use octets::number;
@@ -97,6 +98,11 @@ pub(crate) fn reply(number: u8, a: u64, b: u64, bytes: &[u8]) -> bool {
     io::write_all(STDOUT_FILENO, bytes)
 }
 
+// The answer of a call that has no bytes.
+pub(crate) fn tell(a: Answer) -> bool {
+    reply(a.number, a.a, a.b, b"")
+}
+
 // A call done that answers two numbers.
 pub(crate) fn pair(a: u64, b: u64) -> bool {
     reply(0, a, b, b"")
@@ -109,7 +115,8 @@ pub(crate) fn refused(r: Refusal) -> bool {
 
 // A call refused that answers bytes all the same.
 pub(crate) fn refused_with(r: Refusal, bytes: &[u8]) -> bool {
-    reply(numbers::number_of(r), numbers::carried_by(r), 0, bytes)
+    let a = answer::refusal(r);
+    reply(a.number, a.a, 0, bytes)
 }
 
 // A request that cannot be carried to a call: 255, and the program ends.

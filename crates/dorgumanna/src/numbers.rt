@@ -4,7 +4,7 @@ ghost use Rattle.paper.specs.Refusals.{numberOf, carriedBy};
 use paper::refusal::Refusal;
 
 // The number of a refusal.
-pub(crate) fn number_of(r: Refusal) -> u8
+pub fn number_of(r: Refusal) -> u8
     ensures { λ n. ⌜ n ≡ numberOf r ⌝ }
 {
     match r {
@@ -30,7 +30,7 @@ pub(crate) fn number_of(r: Refusal) -> u8
 }
 
 // What a refusal carries: the U number of a 5, the stored value of an 18, else 0.
-pub(crate) fn carried_by(r: Refusal) -> u64
+pub fn carried_by(r: Refusal) -> u64
     ensures { λ n. ⌜ n ≡ carriedBy r ⌝ }
 {
     match r {

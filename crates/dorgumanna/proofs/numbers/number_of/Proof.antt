@@ -1,8 +1,8 @@
 -- Each arm answers the row of `numberOf` that it is.
 use borrow.Author.Needs.{needs}
 use Rattle.paper.specs.Refusals.{numberOf}
-use Rattle.ask.proofs.numbers.number_of.Statement.{statement}
-use Rattle.ask.proofs.numbers.number_of.Tie as tie
+use Rattle.dorgumanna.proofs.numbers.number_of.Statement.{statement}
+use Rattle.dorgumanna.proofs.numbers.number_of.Tie as tie
 
 enum-told : tie.Need-enum-told
 enum-told c = search needs

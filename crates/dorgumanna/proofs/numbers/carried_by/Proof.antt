@@ -1,8 +1,8 @@
 -- Each arm answers the row of `carriedBy` that it is.
 use borrow.Author.Needs.{needs}
 use Rattle.paper.specs.Refusals.{carriedBy}
-use Rattle.ask.proofs.numbers.carried_by.Statement.{statement}
-use Rattle.ask.proofs.numbers.carried_by.Tie as tie
+use Rattle.dorgumanna.proofs.numbers.carried_by.Statement.{statement}
+use Rattle.dorgumanna.proofs.numbers.carried_by.Tie as tie
 
 enum-told : tie.Need-enum-told
 enum-told c = search needs

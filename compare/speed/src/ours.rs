@@ -1,0 +1,139 @@
+//! The static library's calls, at width 8.
+
+/// An answer: 0 and the call's values, or the number of a refusal.
+#[repr(C)]
+pub struct Answer {
+    pub number: u8,
+    pub a: u64,
+    pub b: u64,
+}
+
+/// The answer of the space numbers.
+#[repr(C)]
+pub struct SpaceAnswer {
+    pub number: u8,
+    pub carried: u64,
+    pub start: u64,
+    pub end: u64,
+    pub free: u64,
+    pub used: u64,
+    pub effective: u64,
+    pub reclaimable: u64,
+    pub compacted: u64,
+}
+
+mod c {
+    use super::{Answer, SpaceAnswer};
+
+    extern "C" {
+        pub fn dorgumanna_find(
+            p: *const u8,
+            n: usize,
+            width: u8,
+            key: *const u8,
+            k: usize,
+        ) -> Answer;
+        pub fn dorgumanna_lower_bound(
+            p: *const u8,
+            n: usize,
+            width: u8,
+            key: *const u8,
+            k: usize,
+        ) -> Answer;
+        pub fn dorgumanna_upper_bound(
+            p: *const u8,
+            n: usize,
+            width: u8,
+            key: *const u8,
+            k: usize,
+        ) -> Answer;
+        pub fn dorgumanna_compare(
+            p: *const u8,
+            n: usize,
+            width: u8,
+            slot: usize,
+            key: *const u8,
+            k: usize,
+        ) -> Answer;
+        pub fn dorgumanna_entry(p: *const u8, n: usize, width: u8, slot: usize) -> Answer;
+        pub fn dorgumanna_copy_key(
+            p: *const u8,
+            n: usize,
+            width: u8,
+            slot: usize,
+            out: *mut u8,
+            m: usize,
+        ) -> Answer;
+        pub fn dorgumanna_trailing_id(p: *const u8, n: usize, width: u8, slot: usize) -> Answer;
+        pub fn dorgumanna_space(p: *const u8, n: usize) -> SpaceAnswer;
+        pub fn dorgumanna_need(width: u8, prefix_len: usize, key: *const u8, k: usize) -> Answer;
+        pub fn dorgumanna_forecast(
+            lower: *const u8,
+            n: usize,
+            upper: *const u8,
+            m: usize,
+        ) -> Answer;
+    }
+}
+
+// SAFETY, of every call below: a slice's pointer and length are handed on as C takes a lent slice, and the functions
+// are proved to stay inside.
+
+#[inline(always)]
+pub fn find(page: &[u8], key: &[u8]) -> Answer {
+    unsafe { c::dorgumanna_find(page.as_ptr(), page.len(), 8, key.as_ptr(), key.len()) }
+}
+
+#[inline(always)]
+pub fn lower_bound(page: &[u8], key: &[u8]) -> Answer {
+    unsafe { c::dorgumanna_lower_bound(page.as_ptr(), page.len(), 8, key.as_ptr(), key.len()) }
+}
+
+#[inline(always)]
+pub fn upper_bound(page: &[u8], key: &[u8]) -> Answer {
+    unsafe { c::dorgumanna_upper_bound(page.as_ptr(), page.len(), 8, key.as_ptr(), key.len()) }
+}
+
+#[inline(always)]
+pub fn compare(page: &[u8], slot: usize, key: &[u8]) -> Answer {
+    unsafe { c::dorgumanna_compare(page.as_ptr(), page.len(), 8, slot, key.as_ptr(), key.len()) }
+}
+
+#[inline(always)]
+pub fn entry(page: &[u8], slot: usize) -> Answer {
+    unsafe { c::dorgumanna_entry(page.as_ptr(), page.len(), 8, slot) }
+}
+
+#[inline(always)]
+pub fn copy_key(page: &[u8], slot: usize, out: &mut [u8]) -> Answer {
+    unsafe {
+        c::dorgumanna_copy_key(
+            page.as_ptr(),
+            page.len(),
+            8,
+            slot,
+            out.as_mut_ptr(),
+            out.len(),
+        )
+    }
+}
+
+#[inline(always)]
+pub fn trailing_id(page: &[u8], slot: usize) -> Answer {
+    unsafe { c::dorgumanna_trailing_id(page.as_ptr(), page.len(), 8, slot) }
+}
+
+#[inline(always)]
+pub fn space(page: &[u8]) -> SpaceAnswer {
+    unsafe { c::dorgumanna_space(page.as_ptr(), page.len()) }
+}
+
+#[inline(always)]
+pub fn need(prefix_len: usize, key: &[u8]) -> Answer {
+    unsafe { c::dorgumanna_need(8, prefix_len, key.as_ptr(), key.len()) }
+}
+
+#[inline(always)]
+pub fn forecast(lower: &[u8], upper: &[u8]) -> Answer {
+    unsafe { c::dorgumanna_forecast(lower.as_ptr(), lower.len(), upper.as_ptr(), upper.len()) }
+}
