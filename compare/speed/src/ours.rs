@@ -73,6 +73,8 @@ mod c {
             upper: *const u8,
             m: usize,
         ) -> Answer;
+        pub fn dorgumanna_layout(p: *const u8, n: usize, width: u8) -> Answer;
+        pub fn dorgumanna_fit(p: *const u8, n: usize, width: u8) -> Answer;
     }
 }
 
@@ -136,4 +138,14 @@ pub fn need(prefix_len: usize, key: &[u8]) -> Answer {
 #[inline(always)]
 pub fn forecast(lower: &[u8], upper: &[u8]) -> Answer {
     unsafe { c::dorgumanna_forecast(lower.as_ptr(), lower.len(), upper.as_ptr(), upper.len()) }
+}
+
+#[inline(always)]
+pub fn layout(page: &[u8]) -> Answer {
+    unsafe { c::dorgumanna_layout(page.as_ptr(), page.len(), 8) }
+}
+
+#[inline(always)]
+pub fn fit(page: &[u8]) -> Answer {
+    unsafe { c::dorgumanna_fit(page.as_ptr(), page.len(), 8) }
 }

@@ -195,10 +195,13 @@ pub fn roomy(probes: usize) -> Vec<Case> {
     ]
 }
 
-/// The two full pages on which verdicts are timed.
+/// The pages on which verdicts are timed: full ones, and those of a half, a quarter and an eighth as many entries.
 pub fn full() -> Vec<Case> {
-    vec![
-        Case::new(SHAPES[0], 1016, true, 4),
-        Case::new(SHAPES[1], 400, true, 4),
-    ]
+    let shapes = [(SHAPES[0], 1016), (SHAPES[1], 400)];
+    let counts = |(shape, most): (Shape, usize)| [8, 4, 2, 1].map(|part| (shape, most / part));
+    shapes
+        .into_iter()
+        .flat_map(counts)
+        .map(|(shape, count)| Case::new(shape, count, true, 4))
+        .collect()
 }

@@ -169,16 +169,18 @@ fn sign(order: Option<std::cmp::Ordering>) -> u64 {
 
 /// The verdicts, on full pages. `validate_persisted_layout` is what stands beside both.
 pub fn verdicts() -> Vec<Row> {
-    ["layout", "fit"]
-        .into_iter()
-        .map(|name| Row {
-            name,
-            ours: None,
-            alone: side(|c, _| u64::from(timed::layout(&c.page))),
-            checked: None,
-            around: nothing(),
-        })
-        .collect()
+    let row = |name, ours| Row {
+        name,
+        ours,
+        alone: side(|c, _| u64::from(timed::layout(&c.page))),
+        checked: None,
+        around: nothing(),
+    };
+    vec![
+        row("layout", side(|c, _| answer(ours::layout(c.page.bytes())))),
+        // the pages are fit, which the layout verdict tells as 1
+        row("fit", side(|c, _| 1 - answer(ours::fit(c.page.bytes())))),
+    ]
 }
 
 /// The loop over the probes, which asks nothing.
