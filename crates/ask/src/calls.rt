@@ -1,6 +1,7 @@
 // The calls: each is carried out and its answer written. All answer whether the program goes on.
 ghost use mathlib.Core.Path.{_≡_};
 ghost use lib.ListN.{length};
+use crate::edits;
 use crate::registers;
 use crate::wire;
 use crate::wire::Request;
@@ -38,6 +39,9 @@ pub(crate) fn answer(store: &mut [u8], first: &[u8], second: &mut [u8], q: Reque
     if q.call == 0 {
         registers::load(store, q.page as usize, key);
         return wire::pair(0, 0);
+    }
+    if (2 <= q.call) & (q.call <= 6) {
+        return edits::edit(store, q.page as usize, first, second, q);
     }
     on_page(registers::content(store, q.page as usize), key, second, q)
 }

@@ -5,16 +5,26 @@ ghost use lib.ListN.{length};
 use octets::number;
 use octets::runs;
 
+// How many bytes register `r` holds.
+pub(crate) fn content_len(store: &[u8], r: usize) -> usize
+    requires { ⌜ (length (now store) ≡ 328016) × (r ≤ 3) ⌝ }
+    ensures { λ n. ⌜ n ≤ 82000 ⌝ }
+{
+    let n = number::read_u32(store, 82004 * r) as usize;
+    if 82000 < n {
+        return 0;
+    }
+    n
+}
+
 // The content of register `r`.
 pub(crate) fn content(store: &[u8], r: usize) -> &[u8]
     requires { ⌜ (length (now store) ≡ 328016) × (r ≤ 3) ⌝ }
+    ensures { λ s. ⌜ length (now s) ≤ 82000 ⌝ }
 {
-    let at = 82004 * r;
-    let n = number::read_u32(store, at) as usize;
-    if 82000 < n {
-        return &store[..0];
-    }
-    &store[at + 4..at + 4 + n]
+    let at = 82004 * r + 4;
+    let n = content_len(store, r);
+    &store[at..at + n]
 }
 
 // Makes `bytes` the content of register `r`.

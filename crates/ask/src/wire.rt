@@ -11,7 +11,10 @@ pub struct Request {
     pub call: u8,
     pub width: u8,
     pub page: u8,
+    pub other: u8,
     pub a: u64,
+    pub b: u64,
+    pub c: u64,
     pub n: usize,
     pub m: usize,
 }
@@ -76,7 +79,10 @@ pub(crate) fn receive(first: &mut [u8], second: &mut [u8]) -> Arrival {
         call: head[0],
         width: head[1],
         page: head[2],
+        other: head[3],
         a: number::read_u64(&head, 4),
+        b: number::read_u64(&head, 12),
+        c: number::read_u64(&head, 20),
         n,
         m,
     })

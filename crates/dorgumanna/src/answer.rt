@@ -2,7 +2,7 @@
 ghost use mathlib.Core.Path.{_≡_};
 ghost use lib.IntN.{pos};
 ghost use mathlib.Core.List.{[], _∷_};
-ghost use Rattle.paper.specs.Answers.{answered, refused as says, foundSays, boundSays, comparedSays, entrySays, copiedSays, trailingSays, neededSays, forecastSays, childSays, verdictSays};
+ghost use Rattle.paper.specs.Answers.{answered, refused as says, foundSays, boundSays, comparedSays, entrySays, copiedSays, trailingSays, neededSays, forecastSays, childSays, verdictSays, editedSays, filedSays, replacedSays};
 ghost use Rattle.paper.specs.declared.answers.SpaceRead.the-variants.{Are, Refused as SpaceRefused};
 ghost use Rattle.dorgumanna.specs.Told.{word, told, spaceTold};
 use crate::numbers;
@@ -10,10 +10,13 @@ use paper::answers::Bound;
 use paper::answers::Child;
 use paper::answers::Compared;
 use paper::answers::Copied;
+use paper::answers::Edited;
 use paper::answers::EntryRead;
+use paper::answers::Filed;
 use paper::answers::Forecast;
 use paper::answers::Found;
 use paper::answers::Needed;
+use paper::answers::Replaced;
 use paper::answers::Space;
 use paper::answers::SpaceRead;
 use paper::answers::Trailing;
@@ -40,6 +43,17 @@ pub struct SpaceAnswer {
     pub effective: u64,
     pub reclaimable: u64,
     pub compacted: u64,
+}
+
+// No value.
+pub fn none() -> Answer
+    ensures { λ r. ⌜ r ≡ told (answered []) ⌝ }
+{
+    Answer {
+        number: 0,
+        a: 0,
+        b: 0,
+    }
 }
 
 // One value.
@@ -135,6 +149,36 @@ pub fn verdict(f: Verdict) -> Answer
     match f {
         Verdict::Is(n) => one(n as u64),
         Verdict::Refused(r) => refusal(r),
+    }
+}
+
+// Begin, change key, run copy: done.
+pub fn edited(f: Edited) -> Answer
+    ensures { λ r. ⌜ r ≡ told (editedSays f) ⌝ }
+{
+    match f {
+        Edited::Done => none(),
+        Edited::Refused(r) => refusal(r),
+    }
+}
+
+// Insert: the slot number.
+pub fn filed(f: Filed) -> Answer
+    ensures { λ r. ⌜ r ≡ told (filedSays f) ⌝ }
+{
+    match f {
+        Filed::At(i) => one(i as u64),
+        Filed::Refused(r) => refusal(r),
+    }
+}
+
+// Set value: the old value.
+pub fn replaced(f: Replaced) -> Answer
+    ensures { λ r. ⌜ r ≡ told (replacedSays f) ⌝ }
+{
+    match f {
+        Replaced::Old(v) => one(v),
+        Replaced::Refused(r) => refusal(r),
     }
 }
 

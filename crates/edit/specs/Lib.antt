@@ -1,1 +1,5 @@
 pub mod Begins
+pub mod Tested
+pub mod Inserts
+pub mod Sets
+pub mod Changed

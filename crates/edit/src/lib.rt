@@ -1,3 +1,8 @@
 // Edits: the calls of document 01 that change a page.
 pub mod begin;
+pub mod change;
 mod fences;
+pub mod insert;
+mod neighbours;
+pub mod set;
+mod values;

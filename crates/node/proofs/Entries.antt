@@ -30,7 +30,7 @@ use Rattle.node.specs.declared.entry.Opened.the-variants.{Is as Opened·
 use Rattle.node.proofs.Admits.{admitted, count-is, end-is, admitted-judge, refused-admit, slot-is, slot-judge, slot-refused}
 
 -- a known width is at most 8
-width-whole : (w : ℕ) → isWidth w ≡ true → min w 8 ≡ w
+pub width-whole : (w : ℕ) → isWidth w ≡ true → min w 8 ≡ w
 unfolding isWidth
 width-whole w e = go (decLe w 8)
   where

@@ -9,8 +9,8 @@ use node::key;
 use paper::page::Header;
 use paper::page::Slot;
 
-// Whether a suffix is below a fence's: a short one's bytes are its head's, whatever its head pads.
-fn below_fence(p: &[u8], s: Slot, suffix: &[u8]) -> bool
+// Whether a suffix is below that of a slot, a fence's or an entry's: a short one's bytes are its head's, whatever its head pads.
+pub fn below_fence(p: &[u8], s: Slot, suffix: &[u8]) -> bool
     requires { ⌜ LongLies (length (now p)) s ⌝ }
     ensures { λ r. ⌜ r ≡ less (now (suffix .entry)) (suffixOf (now (p .entry)) s) ⌝ }
 {

@@ -1,0 +1,88 @@
+-- Each way out is one law: the value is too large, the key lacks the prefix or lies outside the fences, or what the search of a fit page finds.
+use borrow.Author.Needs.{needs}
+use mathlib.Core.Path.{sym, _∙_}
+use native.Mathlib.Omega.{arith}
+use borrow.Author.Tests.{not-true, not-false}
+use Rattle.search.proofs.Asked.{prefix-fits, slots-fit, fences-fit}
+use Rattle.edit.proofs.Testing.{tested-rules}
+use Rattle.edit.proofs.Inserted.{room-asked, place-range, place-lacks, place-outside, place-found}
+use Rattle.edit.proofs.insert.place.Statement.{statement}
+use Rattle.edit.proofs.insert.place.Tie as tie
+
+fits-width-requires : tie.Need-fits-width-requires
+fits-width-requires c κs = search needs
+
+returns : tie.Need-returns
+returns c =
+    let fits = c .before .fits-width in
+    sym (place-range _ _ _ _ _ (c .before .before .before .before .pre) _ (fits .ensures) (not-true (fits .result) (c .if1 .taken)))
+
+class-requires : tie.Need-class-requires
+class-requires c κs =
+    let T = c .before .before .before .before .pre in
+    (omega (arith, T .size), prefix-fits _ _ (T .header) (tested-rules _ _ _ _ T))
+
+returns-2 : tie.Need-returns-2
+returns-2 c =
+    let valued = c .before .before in
+    let fits = valued .before .fits-width in
+    sym
+    (place-lacks _ _ _ _ _ (valued .before .before .before .before .pre) _ (fits .ensures) (not-false (fits .result) (valued .if1 .left)) _ (c .before .class .ensures)
+    (c .if2 .taken))
+
+suffix-requires : tie.Need-suffix-requires
+suffix-requires c κs = let T = c .before .before .before .before .before .before .pre in omega (arith, T .size)
+
+inside-requires : tie.Need-inside-requires
+inside-requires c κs = let T = c .before .before .before .before .before .before .before .pre in fences-fit _ _ (T .header) (tested-rules _ _ _ _ T) (T .size)
+
+returns-3 : tie.Need-returns-3
+returns-3 c =
+    let cut = c .before .before in
+    let valued = cut .before .before .before in
+    let fits = valued .before .fits-width in
+    let inside = c .before .inside in
+    sym
+    (place-outside _ _ _ _ _ (valued .before .before .before .before .pre) _ (fits .ensures) (not-false (fits .result) (valued .if1 .left)) _
+    (cut .before .before .class .ensures) (cut .before .if2 .left) _ (cut .suffix .ensures) _ (inside .ensures) (not-true (inside .result) (c .if3 .taken)))
+
+has-room-requires : tie.Need-has-room-requires
+has-room-requires c κs = let cut = c .before .before in room-asked _ _ _ _ (cut .before .before .before .before .before .before .before .pre) _ (cut .suffix .ensures)
+
+find-in-requires : tie.Need-find-in-requires
+find-in-requires c κs =
+    let T = c .before .before .before .before .before .before .before .before .before .before .pre in
+    (omega (arith, T .size), slots-fit _ _ (T .header) (tested-rules _ _ _ _ T))
+
+place-by-requires : tie.Need-place-by-requires
+place-by-requires c κs = search needs
+
+returns-4 : tie.Need-returns-4
+returns-4 c =
+    let seen = c .before .before .before in
+    let cut = seen .before .before in
+    let valued = cut .before .before .before in
+    let fits = valued .before .fits-width in
+    let keyed = valued .before .before in
+    let inside = seen .before .inside in
+    c .place-by .ensures
+    ∙ sym
+    (place-found _ _ _ _ _ (keyed .before .before .pre) _ (fits .ensures) (not-false (fits .result) (valued .if1 .left)) _ (cut .before .before .class .ensures)
+    (cut .before .if2 .left) _ (cut .suffix .ensures) _ (inside .ensures) (not-false (inside .result) (seen .if3 .left)) _ (c .before .before .has-room .ensures)
+    (λ i. keyed .before .shared-slice-known .given i .fits) (λ i. keyed .shared-slice-known2 .given i .fits) _ (c .before .find-in .ensures))
+
+pub place-spec : {M : Type 1} → statement M
+place-spec =
+    tie.close
+    (tie.spec
+    fits-width-requires
+    returns
+    class-requires
+    returns-2
+    suffix-requires
+    inside-requires
+    returns-3
+    has-room-requires
+    find-in-requires
+    place-by-requires
+    returns-4)
