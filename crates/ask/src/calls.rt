@@ -1,5 +1,6 @@
 // The calls: each is carried out and its answer written. All answer whether the program goes on.
 ghost use mathlib.Core.Path.{_≡_};
+ghost use Prim.Native.Nat.{_≤_};
 ghost use lib.ListN.{length};
 use crate::edits;
 use crate::registers;
@@ -26,24 +27,32 @@ use verdict::layout;
 pub(crate) fn answer(store: &mut [u8], first: &[u8], second: &mut [u8], q: Request) -> bool
     requires { ⌜ length (now store) ≡ 328016 ⌝ }
 {
-    let key = wire::front(first, q.n);
     if q.call == 16 {
-        return wire::tell(answer::needed(space::need(q.width, q.a as usize, key)));
+        let n = space::need(q.width, q.a as usize, wire::front(first, q.n));
+        return wire::tell(answer::needed(n));
     }
     if q.call == 17 {
-        return wire::tell(answer::forecast(space::forecast(key, wire::front(second, q.m))));
+        let f = space::forecast(wire::front(first, q.n), wire::front(second, q.m));
+        return wire::tell(answer::forecast(f));
     }
     if 3 < q.page {
         return wire::broken();
     }
+    on_register(store, q.page as usize, first, second, q)
+}
+
+// Answers a call on the page in register `r`.
+fn on_register(store: &mut [u8], r: usize, first: &[u8], second: &mut [u8], q: Request) -> bool
+    requires { ⌜ (length (now store) ≡ 328016) × (r ≤ 3) ⌝ }
+{
     if q.call == 0 {
-        registers::load(store, q.page as usize, key);
+        registers::load(store, r, wire::front(first, q.n));
         return wire::pair(0, 0);
     }
-    if (2 <= q.call) & (q.call <= 6) {
-        return edits::edit(store, q.page as usize, first, second, q);
+    if (2 <= q.call) & (q.call <= 5) {
+        return edits::edit(store, r, first, second, q);
     }
-    on_page(registers::content(store, q.page as usize), key, second, q)
+    on_page(registers::content(store, r), wire::front(first, q.n), second, q)
 }
 
 // Answers a call that reads a page.

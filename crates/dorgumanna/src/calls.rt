@@ -1,13 +1,18 @@
 // The calls.
 ghost use mathlib.Core.Path.{_≡_};
 ghost use mathlib.Core.Bool.{true, false};
-ghost use Rattle.paper.specs.Calls.{findOf, boundOf, compareOf, readEntry, copyOf, copyBuffer, trailingOf, spaceRead, needOf, forecastOf, childOf, layoutVerdict, fitVerdict};
-ghost use Rattle.paper.specs.Answers.{foundSays, boundSays, comparedSays, entrySays, copiedSays, trailingSays, neededSays, forecastSays, childSays, verdictSays};
+ghost use Rattle.paper.specs.Calls.{findOf, boundOf, compareOf, readEntry, copyOf, copyBuffer, trailingOf, spaceRead, needOf, forecastOf, childOf, layoutVerdict, fitVerdict, beginOf, beginPage, insertOf, insertPage, setOf, setPage, changeOf, changePage};
+ghost use Rattle.paper.specs.Answers.{foundSays, boundSays, comparedSays, entrySays, copiedSays, trailingSays, neededSays, forecastSays, childSays, verdictSays, editedSays, filedSays, replacedSays};
+ghost use Rattle.edit.specs.Begins.{given};
 ghost use Rattle.dorgumanna.specs.Told.{told, spaceTold};
 use crate::answer;
 use crate::answer::Answer;
 use crate::answer::SpaceAnswer;
 use child::lookup;
+use edit::begin;
+use edit::change;
+use edit::insert;
+use edit::set;
 use node::entry;
 use node::key;
 use node::space;
@@ -121,4 +126,54 @@ pub extern "C" fn dorgumanna_fit(page: &[u8], width: u8) -> Answer
     ensures { λ r. ⌜ r ≡ told (verdictSays (fitVerdict width (now (page .entry)))) ⌝ }
 {
     answer::verdict(fit::fit_verdict(page, width))
+}
+
+// Begin: makes of the page one without entries between two fences.
+#[no_mangle]
+pub extern "C" fn dorgumanna_begin(
+    page: &mut [u8],
+    height: u16,
+    timestamp: u64,
+    lower: &[u8],
+    lower_value: u64,
+    upper: &[u8],
+    flag: bool,
+) -> Answer
+    ensures { λ r. ⌜ r ≡ told (editedSays (beginOf (now (page .entry)) (given height timestamp (now (lower .entry)) «lower_value» (now (upper .entry)) flag))) ⌝ }
+    ensures { λ _. ⌜ now (page .exit) ≡ beginPage (now (page .entry)) (given height timestamp (now (lower .entry)) «lower_value» (now (upper .entry)) flag) ⌝ }
+{
+    answer::edited(begin::begin(page, height, timestamp, lower, lower_value, upper, flag))
+}
+
+// Insert: files the key with its value, `a` its slot number.
+#[no_mangle]
+pub extern "C" fn dorgumanna_insert(page: &mut [u8], width: u8, key: &[u8], value: u64) -> Answer
+    ensures { λ r. ⌜ r ≡ told (filedSays (insertOf width (now (page .entry)) (now (key .entry)) value)) ⌝ }
+    ensures { λ _. ⌜ now (page .exit) ≡ insertPage width (now (page .entry)) (now (key .entry)) value ⌝ }
+{
+    answer::filed(insert::insert(page, width, key, value))
+}
+
+// Set value: replaces the expected value of a key by another, `a` the old one.
+#[no_mangle]
+pub extern "C" fn dorgumanna_set_value(
+    page: &mut [u8],
+    width: u8,
+    key: &[u8],
+    expected: u64,
+    new: u64,
+) -> Answer
+    ensures { λ r. ⌜ r ≡ told (replacedSays (setOf width (now (page .entry)) (now (key .entry)) expected new)) ⌝ }
+    ensures { λ _. ⌜ now (page .exit) ≡ setPage width (now (page .entry)) (now (key .entry)) expected new ⌝ }
+{
+    answer::replaced(set::set_value(page, width, key, expected, new))
+}
+
+// Change key: gives a slot another key.
+#[no_mangle]
+pub extern "C" fn dorgumanna_change_key(page: &mut [u8], width: u8, slot: usize, key: &[u8]) -> Answer
+    ensures { λ r. ⌜ r ≡ told (editedSays (changeOf width (now (page .entry)) slot (now (key .entry)))) ⌝ }
+    ensures { λ _. ⌜ now (page .exit) ≡ changePage width (now (page .entry)) slot (now (key .entry)) ⌝ }
+{
+    answer::edited(change::change_key(page, width, slot, key))
 }
