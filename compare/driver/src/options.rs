@@ -41,7 +41,7 @@ pub const USAGE: &str = "\
 compare run [--seed S[,S...]] [--count N] [--ask CMD|none] [--page FILE]... [--width W] [--calls C[,C...]] [--tell N] [--patience SECONDS] [--shows]
 compare departures [--ask CMD|none]
 compare record --out-stdin FILE --out-stdout FILE [--seed S] [--limit BYTES] [--calls C[,C...]]
-compare samples --out FOLDER
+compare samples [--out FOLDER] [--out-stdin FILE --out-stdout FILE]
 
 Without --ask, `run ask` at the project's root is asked, if that program is there.";
 

@@ -8,7 +8,7 @@ use doradb::oracle::{self, Width};
 use std::fs;
 use std::path::Path;
 
-/// A text above this many bytes is not kept: it can be made again.
+/// A text above this many bytes is not kept: it can be made again. In the stream its sums stand for it.
 const KEPT: usize = 100_000;
 
 /// A sample: what the listing program gets on its standard input.
@@ -19,22 +19,63 @@ pub struct Sample {
     pub input: Vec<u8>,
 }
 
-/// Writes NAME.page and NAME.txt for every sample into the folder `--out`.
+/// Writes NAME.page and NAME.txt for every sample into the folder `--out`, and all of them as
+/// one stream for the program `listings` with the answers it shall give. The stream ends with a
+/// record cut short.
 pub fn samples(options: &Options) -> Result<bool, String> {
-    let folder = options.out.as_deref().ok_or("samples wants --out FOLDER")?;
-    let write = |name: String, bytes: &[u8]| {
-        let file = Path::new(folder).join(name);
-        fs::write(&file, bytes).map_err(|error| format!("{}: {error}", file.display()))
-    };
+    let stream = options
+        .out_stdin
+        .as_deref()
+        .zip(options.out_stdout.as_deref());
+    if options.out_stdin.is_some() != options.out_stdout.is_some() {
+        return Err("samples wants --out-stdin and --out-stdout together".into());
+    }
+    if options.out.is_none() && stream.is_none() {
+        return Err("samples wants --out FOLDER, or --out-stdin FILE and --out-stdout FILE".into());
+    }
+    let (mut records, mut answers) = (Vec::new(), Vec::new());
     for Sample { name, input } in all() {
         let text = plain::list(&input);
-        write(format!("{name}.page"), &input)?;
-        if text.len() <= KEPT {
-            write(format!("{name}.txt"), text.as_bytes())?;
+        if let Some(folder) = options.out.as_deref().map(Path::new) {
+            write(&folder.join(format!("{name}.page")), &input)?;
+            if text.len() <= KEPT {
+                write(&folder.join(format!("{name}.txt")), text.as_bytes())?;
+            }
         }
+        records.extend(record(&input, text.len() > KEPT));
+        answers.extend(answer(&text));
         println!("{name}: {} bytes listed", text.len());
     }
+    records.extend(&record(&[], false)[1..]);
+    answers.extend(b"cut\n");
+    if let Some((stdin, stdout)) = stream {
+        write(Path::new(stdin), &records)?;
+        write(Path::new(stdout), &answers)?;
+    }
     Ok(true)
+}
+
+fn write(file: &Path, bytes: &[u8]) -> Result<(), String> {
+    fs::write(file, bytes).map_err(|error| format!("{}: {error}", file.display()))
+}
+
+/// A record of the stream: whether the text is only summed, the input's length, the input.
+fn record(input: &[u8], summed: bool) -> Vec<u8> {
+    let length = u32::try_from(input.len()).expect("a sample is short");
+    [&[u8::from(summed)][..], &length.to_le_bytes(), input].concat()
+}
+
+/// What answers a record: the text, or in place of a long one its length and two sums over its bytes.
+fn answer(text: &str) -> Vec<u8> {
+    if text.len() <= KEPT {
+        return text.as_bytes().to_vec();
+    }
+    let (mut h1, mut h2) = (0_u64, 0_u64);
+    for x in text.bytes().map(u64::from) {
+        h1 = (31 * h1 + x + 1) % 4_294_967_291;
+        h2 = (37 * h2 + x + 1) % 4_294_967_279;
+    }
+    format!("sum {} {h1} {h2}\n", text.len()).into_bytes()
 }
 
 /// Every sample, the pages of each kind once.

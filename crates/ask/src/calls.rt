@@ -52,7 +52,12 @@ fn on_register(store: &mut [u8], r: usize, first: &[u8], second: &mut [u8], q: R
     if (2 <= q.call) & (q.call <= 5) {
         return edits::edit(store, r, first, second, q);
     }
-    on_page(registers::content(store, r), wire::front(first, q.n), second, q)
+    on_page(
+        registers::content(store, r),
+        wire::front(first, q.n),
+        second,
+        q,
+    )
 }
 
 // Answers a call that reads a page.

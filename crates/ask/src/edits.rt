@@ -17,7 +17,12 @@ pub(crate) fn edit(store: &mut [u8], r: usize, first: &[u8], second: &mut [u8], 
 {
     let at = 82004 * r + 4;
     let n = registers::content_len(store, r);
-    edit_page(&mut store[at..at + n], wire::front(first, q.n), wire::front(second, q.m), q)
+    edit_page(
+        &mut store[at..at + n],
+        wire::front(first, q.n),
+        wire::front(second, q.m),
+        q,
+    )
 }
 
 // Answers an edit of one page.

@@ -171,7 +171,12 @@ pub extern "C" fn dorgumanna_set_value(
 
 // Change key: gives a slot another key.
 #[no_mangle]
-pub extern "C" fn dorgumanna_change_key(page: &mut [u8], width: u8, slot: usize, key: &[u8]) -> Answer
+pub extern "C" fn dorgumanna_change_key(
+    page: &mut [u8],
+    width: u8,
+    slot: usize,
+    key: &[u8],
+) -> Answer
     ensures { λ r. ⌜ r ≡ told (editedSays (changeOf width (now (page .entry)) slot (now (key .entry)))) ⌝ }
     ensures { λ _. ⌜ now (page .exit) ≡ changePage width (now (page .entry)) slot (now (key .entry)) ⌝ }
 {

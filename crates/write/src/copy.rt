@@ -115,15 +115,7 @@ fn append_run(
 }
 
 // Entries `a` to `a + n` of the page `q`; then, where there are any, the hints in use are refreshed.
-pub fn copy_run(
-    p: &mut [u8],
-    h: Header,
-    width: u8,
-    q: &[u8],
-    prefix_len: u16,
-    a: usize,
-    n: usize,
-)
+pub fn copy_run(p: &mut [u8], h: Header, width: u8, q: &[u8], prefix_len: u16, a: usize, n: usize)
     requires { ⌜ (Source width (now q) «prefix_len») × (a + n ≤ numbersOf (now q) .count) × (Ready width (now p) h (run width (now q) a n)) ⌝ }
     ensures { λ _. ⌜ now (p .exit) ≡ runCopied width (now (p .entry)) (run width (now (q .entry)) a n) ⌝ }
 {

@@ -11,14 +11,7 @@ use hint::fresh;
 use paper::page::Header;
 
 // The suffix with its value as slot `i`, and the header written back. Hints stay as they are.
-pub fn file_at(
-    p: &mut [u8],
-    h: Header,
-    width: u8,
-    i: usize,
-    suffix: &[u8],
-    value: u64,
-) -> Header
+pub fn file_at(p: &mut [u8], h: Header, width: u8, i: usize, suffix: &[u8], value: u64) -> Header
     requires { ⌜ Room width (now p) h i (length (now suffix)) ⌝ }
     ensures { λ r. ⌜ r ≡ withNumbers h (more width (numbersIn h) (length (now (suffix .entry)))) ⌝ }
     ensures { λ _. ⌜ now (p .exit) ≡ numbered width (now (p .entry)) i (now (suffix .entry)) value ⌝ }

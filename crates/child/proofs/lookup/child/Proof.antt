@@ -21,12 +21,12 @@ why-not-requires c κs = search needs
 
 returns : tie.Need-returns
 unfolding whyNot
-returns c = 
+returns c =
     let told = c .before .enum-told .given .1 in
     rw (c .why-not .ensures, told) (sym (child-refused _ _ _ (sym (c .before .before .before .admit-fit .ensures) ∙ told)))
 
 child-with-requires : tie.Need-child-with-requires
-child-with-requires c κs = 
+child-with-requires c κs =
     let F = fitted _ _ _ _ (sym (c .before .before .before .admit-fit .ensures) ∙ c .before .a .given .1) in
     (F .size, F .verdict, F .header)
 

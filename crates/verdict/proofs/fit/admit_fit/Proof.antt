@@ -27,7 +27,7 @@ fit-header-requires : tie.Need-fit-header-requires
 fit-header-requires c κs = search needs
 
 returns-4 : tie.Need-returns-4
-returns-4 c = 
+returns-4 c =
     let key = c .before in
     let width = key .before in
     c .fit-header .ensures

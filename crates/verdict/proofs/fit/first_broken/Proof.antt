@@ -21,19 +21,19 @@ disjoint-requires : tie.Need-disjoint-requires
 disjoint-requires c κs = (c .before .before .before .before .before .pre, passes _ _ (c .before .before .before .rules-hold .ensures) (c .before .before .if1 .left), passes _ _ (c .before .payloads-held .ensures) (c .if2 .left))
 
 returns-3 : tie.Need-returns-3
-returns-3 c = 
+returns-3 c =
     let two = c .before .before in
     let one = two .before .before in
     sym (fit-3 _ _ _ _ (one .before .rules-hold .ensures) _ (two .before .payloads-held .ensures) (one .if1 .left) _ (c .before .disjoint .ensures) (two .if2 .left) (c .if3 .taken))
 
 first-of-keys-requires : tie.Need-first-of-keys-requires
-first-of-keys-requires c κs = 
+first-of-keys-requires c κs =
     let two = c .before .before in
     let one = two .before .before in
     (one .before .before .before .pre, passes _ _ (one .before .rules-hold .ensures) (one .if1 .left), passes _ _ (two .before .payloads-held .ensures) (two .if2 .left))
 
 returns-4 : tie.Need-returns-4
-returns-4 c = 
+returns-4 c =
     let three = c .before in
     let two = three .before .before in
     let one = two .before .before in

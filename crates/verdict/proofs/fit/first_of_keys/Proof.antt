@@ -24,7 +24,7 @@ first-of-requires : tie.Need-first-of-requires
 first-of-requires c κs = search needs
 
 returns : tie.Need-returns
-returns c = 
+returns c =
     let hints = c .before in
     let effective = hints .before in
     let fences = effective .before in

@@ -26,7 +26,7 @@ first-broken-requires c κs = search needs
 
 returns-3 : tie.Need-returns-3
 unfolding fitVerdict judge
-returns-3 c = 
+returns-3 c =
     let h = c .before in
     let width = h .before in
     rw (

@@ -21,32 +21,32 @@ payloads-held-requires : tie.Need-payloads-held-requires
 payloads-held-requires c κs = let one = c .before .before in (one .before .before .before .pre, passes _ _ (one .before .rules-hold .ensures) (one .if1 .left))
 
 returns-3 : tie.Need-returns-3
-returns-3 c = 
+returns-3 c =
     let empty = c .before .before in
     let one = empty .before .before in
     sym (layout-2 _ _ _ _ (one .before .rules-hold .ensures) _ (empty .before .empty-leaf .ensures) (one .if1 .left) _ (c .before .payloads-held .ensures) (empty .if2 .left) (c .if3 .taken))
 
 disjoint-requires : tie.Need-disjoint-requires
-disjoint-requires c κs = 
+disjoint-requires c κs =
     let one = c .before .before .before .before in
     (one .before .before .before .pre, passes _ _ (one .before .rules-hold .ensures) (one .if1 .left), passes _ _ (c .before .payloads-held .ensures) (c .if3 .left))
 
 returns-4 : tie.Need-returns-4
-returns-4 c = 
+returns-4 c =
     let two = c .before .before in
     let empty = two .before .before in
     let one = empty .before .before in
     sym (layout-3 _ _ _ _ (one .before .rules-hold .ensures) _ (empty .before .empty-leaf .ensures) (one .if1 .left) _ (two .before .payloads-held .ensures) (empty .if2 .left) _ (c .before .disjoint .ensures) (two .if3 .left) (c .if4 .taken))
 
 in-order-requires : tie.Need-in-order-requires
-in-order-requires c κs = 
+in-order-requires c κs =
     let two = c .before .before in
     let empty = two .before .before in
     let one = empty .before .before in
     (one .before .before .before .pre, passes _ _ (one .before .rules-hold .ensures) (one .if1 .left), passes _ _ (two .before .payloads-held .ensures) (two .if3 .left))
 
 returns-5 : tie.Need-returns-5
-returns-5 c = 
+returns-5 c =
     let two = c .before .before .before in
     let empty = two .before .before in
     let one = empty .before .before in

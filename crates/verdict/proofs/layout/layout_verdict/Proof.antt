@@ -26,7 +26,7 @@ layout-right-requires c κs = search needs
 
 returns-3 : tie.Need-returns-3
 unfolding layoutVerdict judge
-returns-3 c = 
+returns-3 c =
     let right = c .before in
     let h = right .before in
     let width = h .before in
@@ -42,7 +42,7 @@ returns-3 c =
 
 returns-4 : tie.Need-returns-4
 unfolding layoutVerdict judge
-returns-4 c = 
+returns-4 c =
     let right = c .before in
     let h = right .before in
     let width = h .before in

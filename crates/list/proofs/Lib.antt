@@ -1,4 +1,0 @@
-pub mod Decimals
-pub mod Writing
-pub mod Filling
-pub mod Joined

@@ -1,0 +1,3 @@
+pub mod Texts
+pub mod Pieces
+pub mod Sums
