@@ -8,21 +8,21 @@ use crate::wire::Request;
 use dorgumanna::answer;
 use edit::begin;
 use edit::change;
+use edit::copy;
 use edit::insert;
 use edit::set;
+use octets::runs;
 
 // Answers an edit of register `r` whose runs stand at the front of `first` and `second`.
 pub(crate) fn edit(store: &mut [u8], r: usize, first: &[u8], second: &mut [u8], q: Request) -> bool
     requires { ⌜ (length (now store) ≡ 328016) × (r ≤ 3) ⌝ }
 {
+    if q.call == 6 {
+        return run_copied(store, r, second, q);
+    }
     let at = 82004 * r + 4;
     let n = registers::content_len(store, r);
-    edit_page(
-        &mut store[at..at + n],
-        wire::front(first, q.n),
-        wire::front(second, q.m),
-        q,
-    )
+    edit_page(&mut store[at..at + n], wire::front(first, q.n), wire::front(second, q.m), q)
 }
 
 // Answers an edit of one page.
@@ -49,4 +49,35 @@ fn begun(page: &mut [u8], lower: &[u8], upper: &[u8], q: Request) -> bool {
     }
     let done = begin::begin(page, q.a as u16, q.b, lower, q.c, upper, q.width == 1);
     wire::tell(answer::edited(done))
+}
+
+// Run copy: the source goes through `room`, so that the destination alone is lent from the registers. Two registers that
+// are one cannot be carried to the call.
+fn run_copied(store: &mut [u8], r: usize, room: &mut [u8], q: Request) -> bool
+    requires { ⌜ (length (now store) ≡ 328016) × (r ≤ 3) ⌝ }
+{
+    if 3 < q.other {
+        return wire::broken();
+    }
+    if q.other == q.page {
+        return wire::broken();
+    }
+    let m = put_aside(store, q.other as usize, room);
+    let at = 82004 * r + 4;
+    let n = registers::content_len(store, r);
+    let page = &mut store[at..at + n];
+    let done = copy::copy_run(page, wire::front(room, m), q.width, q.a as usize, q.b as usize);
+    wire::tell(answer::edited(done))
+}
+
+// The content of register `r` to the front of `room`; answers its length.
+fn put_aside(store: &[u8], r: usize, room: &mut [u8]) -> usize
+    requires { ⌜ (length (now store) ≡ 328016) × (r ≤ 3) ⌝ }
+{
+    let content = registers::content(store, r);
+    if room.len() < content.len() {
+        return 0;
+    }
+    runs::copy_in(room, 0, content);
+    content.len()
 }

@@ -1,7 +1,7 @@
 // The calls.
 ghost use mathlib.Core.Path.{_≡_};
 ghost use mathlib.Core.Bool.{true, false};
-ghost use Rattle.paper.specs.Calls.{findOf, boundOf, compareOf, readEntry, copyOf, copyBuffer, trailingOf, spaceRead, needOf, forecastOf, childOf, layoutVerdict, fitVerdict, beginOf, beginPage, insertOf, insertPage, setOf, setPage, changeOf, changePage};
+ghost use Rattle.paper.specs.Calls.{findOf, boundOf, compareOf, readEntry, copyOf, copyBuffer, trailingOf, spaceRead, needOf, forecastOf, childOf, layoutVerdict, fitVerdict, beginOf, beginPage, insertOf, insertPage, setOf, setPage, changeOf, changePage, runOf, runPage};
 ghost use Rattle.paper.specs.Answers.{foundSays, boundSays, comparedSays, entrySays, copiedSays, trailingSays, neededSays, forecastSays, childSays, verdictSays, editedSays, filedSays, replacedSays};
 ghost use Rattle.edit.specs.Begins.{given};
 ghost use Rattle.dorgumanna.specs.Told.{told, spaceTold};
@@ -11,6 +11,7 @@ use crate::answer::SpaceAnswer;
 use child::lookup;
 use edit::begin;
 use edit::change;
+use edit::copy;
 use edit::insert;
 use edit::set;
 use node::entry;
@@ -181,4 +182,19 @@ pub extern "C" fn dorgumanna_change_key(
     ensures { λ _. ⌜ now (page .exit) ≡ changePage width (now (page .entry)) slot (now (key .entry)) ⌝ }
 {
     answer::edited(change::change_key(page, width, slot, key))
+}
+
+// Run copy: `n` entries of the source from `first` on, behind all entries of the page.
+#[no_mangle]
+pub extern "C" fn dorgumanna_copy_run(
+    page: &mut [u8],
+    source: &[u8],
+    width: u8,
+    first: usize,
+    n: usize,
+) -> Answer
+    ensures { λ r. ⌜ r ≡ told (editedSays (runOf width (now (page .entry)) (now (source .entry)) first n)) ⌝ }
+    ensures { λ _. ⌜ now (page .exit) ≡ runPage width (now (page .entry)) (now (source .entry)) first n ⌝ }
+{
+    answer::edited(copy::copy_run(page, source, width, first, n))
 }

@@ -6,3 +6,6 @@ pub mod Inserted
 pub mod Replaced
 pub mod Neighbouring
 pub mod Changes
+pub mod Cuts
+pub mod RunKeys
+pub mod RunCalls

@@ -3,3 +3,4 @@ pub mod Tested
 pub mod Inserts
 pub mod Sets
 pub mod Changed
+pub mod RunTests

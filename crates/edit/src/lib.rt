@@ -1,6 +1,8 @@
 // Edits: the calls of document 01 that change a page.
 pub mod begin;
 pub mod change;
+pub mod copy;
+mod cut;
 mod fences;
 pub mod insert;
 mod neighbours;
