@@ -49,7 +49,7 @@ fn on_register(store: &mut [u8], r: usize, first: &[u8], second: &mut [u8], q: R
         registers::load(store, r, wire::front(first, q.n));
         return wire::pair(0, 0);
     }
-    if (2 <= q.call) & (q.call <= 6) {
+    if ((2 <= q.call) & (q.call <= 6)) | (q.call == 20) {
         return edits::edit(store, r, first, second, q);
     }
     on_page(

@@ -11,6 +11,7 @@ use edit::change;
 use edit::copy;
 use edit::insert;
 use edit::set;
+use filing::batch;
 use octets::runs;
 
 // Answers an edit of register `r` whose runs stand at the front of `first` and `second`.
@@ -33,10 +34,22 @@ fn edit_page(page: &mut [u8], first: &[u8], second: &[u8], q: Request) -> bool {
     if q.call == 3 {
         return wire::tell(answer::filed(insert::insert(page, q.width, first, q.a)));
     }
+    if q.call == 20 {
+        return batch_filed(page, first, q);
+    }
     if q.call == 4 {
         return wire::tell(answer::replaced(set::set_value(page, q.width, first, q.a, q.b)));
     }
     wire::tell(answer::edited(change::change_key(page, q.width, q.a as usize, first)))
+}
+
+// Batch: a buffer that ends inside a record cannot be carried to the call.
+fn batch_filed(page: &mut [u8], records: &[u8], q: Request) -> bool {
+    let a = answer::batched(batch::file_batch(page, q.width, records));
+    if a.number == 255 {
+        return wire::broken();
+    }
+    wire::tell(a)
 }
 
 // Begin: a height above 65,535 and a flag above 1 cannot be carried to the call.

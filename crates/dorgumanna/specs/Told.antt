@@ -6,6 +6,8 @@ use Rattle.paper.specs.Refusals.{numberOf, carriedBy}
 use Rattle.paper.specs.Answers.{Said}
 use Rattle.paper.specs.declared.answers.SpaceRead.{SpaceRead}
 use Rattle.paper.specs.declared.answers.SpaceRead.the-variants.{Are, Refused}
+use Rattle.filing.specs.declared.batch.Batched.{Batched}
+use Rattle.filing.specs.declared.batch.Batched.the-variants.{Filed as Batched·Filed, Refused as Batched·Refused, Cut}
 use Rattle.dorgumanna.specs.declared.answer.Answer.{Answer}
 use Rattle.dorgumanna.specs.declared.answer.SpaceAnswer.{SpaceAnswer}
 
@@ -53,3 +55,10 @@ spaceTold (Refused r) =
       reclaimable = 0;
       compacted = 0;
     }
+
+-- a batch: the number of records; or the refusal's number, the place of the record refused and what the refusal carries; 255 where the
+-- buffer ends inside a record
+unfoldable pub batchTold : Batched → Answer
+batchTold (Batched·Filed n) = record { number = 0; a = n; b = 0 }
+batchTold (Batched·Refused i r) = record { number = numberOf r; a = i; b = carriedBy r }
+batchTold Cut = record { number = 255; a = 0; b = 0 }

@@ -4,8 +4,9 @@ ghost use lib.IntN.{pos};
 ghost use mathlib.Core.List.{[], _∷_};
 ghost use Rattle.paper.specs.Answers.{answered, refused as says, foundSays, boundSays, comparedSays, entrySays, copiedSays, trailingSays, neededSays, forecastSays, childSays, verdictSays, editedSays, filedSays, replacedSays};
 ghost use Rattle.paper.specs.declared.answers.SpaceRead.the-variants.{Are, Refused as SpaceRefused};
-ghost use Rattle.dorgumanna.specs.Told.{word, told, spaceTold};
+ghost use Rattle.dorgumanna.specs.Told.{word, told, spaceTold, batchTold};
 use crate::numbers;
+use filing::batch::Batched;
 use paper::answers::Bound;
 use paper::answers::Child;
 use paper::answers::Compared;
@@ -179,6 +180,30 @@ pub fn replaced(f: Replaced) -> Answer
     match f {
         Replaced::Old(v) => one(v),
         Replaced::Refused(r) => refusal(r),
+    }
+}
+
+// Batch: the number of records filed; or a refusal's number, the place of the record refused and what the refusal carries; or
+// 255 where the buffer ends inside a record.
+pub fn batched(f: Batched) -> Answer
+    ensures { λ r. ⌜ r ≡ batchTold f ⌝ }
+{
+    match f {
+        Batched::Filed(n) => Answer {
+            number: 0,
+            a: n as u64,
+            b: 0,
+        },
+        Batched::Refused(i, r) => Answer {
+            number: numbers::number_of(r),
+            a: i as u64,
+            b: numbers::carried_by(r),
+        },
+        Batched::Cut => Answer {
+            number: 255,
+            a: 0,
+            b: 0,
+        },
     }
 }
 

@@ -4,7 +4,8 @@ ghost use mathlib.Core.Bool.{true, false};
 ghost use Rattle.paper.specs.Calls.{findOf, boundOf, compareOf, readEntry, copyOf, copyBuffer, trailingOf, spaceRead, needOf, forecastOf, childOf, layoutVerdict, fitVerdict, beginOf, beginPage, insertOf, insertPage, setOf, setPage, changeOf, changePage, runOf, runPage};
 ghost use Rattle.paper.specs.Answers.{foundSays, boundSays, comparedSays, entrySays, copiedSays, trailingSays, neededSays, forecastSays, childSays, verdictSays, editedSays, filedSays, replacedSays};
 ghost use Rattle.edit.specs.Begins.{given};
-ghost use Rattle.dorgumanna.specs.Told.{told, spaceTold};
+ghost use Rattle.filing.specs.Batches.{batchOf, batchPage};
+ghost use Rattle.dorgumanna.specs.Told.{told, spaceTold, batchTold};
 use crate::answer;
 use crate::answer::Answer;
 use crate::answer::SpaceAnswer;
@@ -14,6 +15,7 @@ use edit::change;
 use edit::copy;
 use edit::insert;
 use edit::set;
+use filing::batch;
 use node::entry;
 use node::key;
 use node::space;
@@ -197,4 +199,14 @@ pub extern "C" fn dorgumanna_copy_run(
     ensures { λ _. ⌜ now (page .exit) ≡ runPage width (now (page .entry)) (now (source .entry)) first n ⌝ }
 {
     answer::edited(copy::copy_run(page, source, width, first, n))
+}
+
+// Batch: files all records of a buffer, each a u32 key length, the key and a u64 value, or none; `a` their number. A refusal has
+// the place of the record refused in `a` and what it carries in `b`; 255 is a buffer that ends inside a record.
+#[no_mangle]
+pub extern "C" fn dorgumanna_file_batch(page: &mut [u8], width: u8, records: &[u8]) -> Answer
+    ensures { λ r. ⌜ r ≡ batchTold (batchOf width (now (page .entry)) (now (records .entry))) ⌝ }
+    ensures { λ _. ⌜ now (page .exit) ≡ batchPage width (now (page .entry)) (now (records .entry)) ⌝ }
+{
+    answer::batched(batch::file_batch(page, width, records))
 }

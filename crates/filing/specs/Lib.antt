@@ -1,0 +1,4 @@
+pub mod Batches
+pub mod Standing
+pub mod Demanded
+pub mod Written

@@ -1,0 +1,3 @@
+// Batches: records filed on a page at once.
+pub mod batch;
+mod records;
