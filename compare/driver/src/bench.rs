@@ -4,7 +4,7 @@ use crate::asking::{self, Ask};
 use crate::calls::{Kind, CALLS, DUMP, LOAD};
 use crate::case::Case;
 use crate::differ::{self, Disagreement};
-use crate::judges::{self, Says, Verdict};
+use crate::judges::{self, Claim, Says, Verdict};
 use crate::talk::Talk;
 use std::rc::Rc;
 
@@ -104,7 +104,7 @@ impl Bench {
     }
 
     /// The running program, started if it is not.
-    fn running(&mut self) -> &Ask {
+    pub fn running(&mut self) -> &Ask {
         let asked = self.ask.as_mut().expect("a program is asked");
         asked
             .running
@@ -112,7 +112,7 @@ impl Bench {
     }
 
     /// Ends the program: after a disagreement its state is not trusted.
-    fn stop(&mut self) {
+    pub fn stop(&mut self) {
         if let Some(asked) = &mut self.ask {
             asked.running = None;
         }
@@ -123,6 +123,11 @@ impl Bench {
 pub fn judged(case: &Case) -> Judged {
     let paper = judges::paper(case);
     let claims = judges::doradb(case, &paper);
+    settled(case, paper, claims)
+}
+
+/// A case after `plain` and doradb have spoken.
+pub fn settled(case: &Case, paper: Verdict, claims: Vec<Claim>) -> Judged {
     let disagreement = differ::against_doradb(case, &paper, &claims);
     let doradb = !claims.is_empty();
     let answer = claims.into_iter().find_map(|claim| match claim.says {

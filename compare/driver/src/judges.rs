@@ -221,11 +221,28 @@ fn edit(case: &Case) -> Claim {
     claim("doradb", || {
         let mut page = oracle::Page::of(&case.page.bytes)?;
         let other = oracle::Page::of(&case.other.bytes);
-        let reply = edited(&mut page, other.as_deref(), &case.request)?;
-        Some(Verdict {
-            reply,
-            after: Some(page.bytes().to_vec()),
-        })
+        edit_verdict(&mut page, other.as_deref(), &case.request)
+    })
+}
+
+/// doradb's answer to an edit, inside the domain, of a page that it keeps.
+pub fn edit_kept(
+    page: Option<&mut oracle::Page>,
+    other: Option<&oracle::Page>,
+    request: &Request,
+) -> Claim {
+    claim("doradb", || edit_verdict(page?, other, request))
+}
+
+fn edit_verdict(
+    page: &mut oracle::Page,
+    other: Option<&oracle::Page>,
+    request: &Request,
+) -> Option<Verdict> {
+    let reply = edited(page, other, request)?;
+    Some(Verdict {
+        reply,
+        after: Some(page.bytes().to_vec()),
     })
 }
 

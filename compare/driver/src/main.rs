@@ -22,6 +22,7 @@ mod record;
 mod run;
 mod samples;
 mod script;
+mod sequences;
 mod shrink;
 mod tables;
 mod talk;
@@ -34,6 +35,7 @@ fn main() -> ExitCode {
     let agreed = Options::read(std::env::args().skip(1)).and_then(|options| {
         match options.command.as_str() {
             "run" => run::run(&options),
+            "sequences" => sequences::sequences(&options),
             "record" => record::record(&options),
             "departures" => departures::departures(&options),
             "samples" => samples::samples(&options),

@@ -6,11 +6,11 @@ use std::path::Path;
 
 /// What the command line says.
 pub struct Options {
-    /// `run`, `departures`, `record` or `samples`.
+    /// `run`, `sequences`, `departures`, `record` or `samples`.
     pub command: String,
     /// The seeds of a run, one after the other.
     pub seeds: Vec<u64>,
-    /// Cases of each seed.
+    /// Cases of each seed, or calls in its sequences.
     pub count: usize,
     /// The shell command of the program to ask, if one is asked.
     pub ask: Option<String>,
@@ -39,6 +39,7 @@ pub struct Options {
 /// How the command is used.
 pub const USAGE: &str = "\
 compare run [--seed S[,S...]] [--count N] [--ask CMD|none] [--page FILE]... [--width W] [--calls C[,C...]] [--tell N] [--patience SECONDS] [--shows]
+compare sequences [--seed S[,S...]] [--count N] [--ask CMD|none] [--tell N] [--shows]
 compare departures [--ask CMD|none]
 compare record --out-stdin FILE --out-stdout FILE [--seed S] [--limit BYTES] [--calls C[,C...]]
 compare samples [--out FOLDER] [--out-stdin FILE --out-stdout FILE]

@@ -166,19 +166,7 @@ pub struct Builder {
 impl Builder {
     /// A page begun over bytes of some kind.
     pub fn begin(random: &mut Random, width: u8, lower: &[u8], upper: &[u8], hints: bool) -> Self {
-        let bed = match random.below(4) {
-            0 | 1 => Step::Filled(0),
-            2 => Step::Filled(255),
-            _ => Step::Scattered(random.next() % 1_000),
-        };
-        let begin = Step::Begin {
-            height: *random.pick(&[0, 0, 0, 1, 2, 7, 65_535]),
-            timestamp: limits(random),
-            lower: lower.to_vec(),
-            lower_value: limits(random),
-            upper: upper.to_vec(),
-            hints,
-        };
+        let (bed, begin) = (bed(random), begin(random, lower, upper, hints));
         let mut builder = Builder {
             script: Vec::new(),
             bytes: Vec::new(),
@@ -256,6 +244,27 @@ impl Builder {
     /// The page as it is now.
     pub fn finish(self) -> Page {
         Page::new(self.script, self.bytes, self.width)
+    }
+}
+
+/// Bytes to begin a page over.
+pub fn bed(random: &mut Random) -> Step {
+    match random.below(4) {
+        0 | 1 => Step::Filled(0),
+        2 => Step::Filled(255),
+        _ => Step::Scattered(random.next() % 1_000),
+    }
+}
+
+/// A begin between two fences.
+pub fn begin(random: &mut Random, lower: &[u8], upper: &[u8], hints: bool) -> Step {
+    Step::Begin {
+        height: *random.pick(&[0, 0, 0, 1, 2, 7, 65_535]),
+        timestamp: limits(random),
+        lower: lower.to_vec(),
+        lower_value: limits(random),
+        upper: upper.to_vec(),
+        hints,
     }
 }
 

@@ -63,6 +63,11 @@ impl Pool {
         Pool::of(pages, pairs, true)
     }
 
+    /// A pool of one page, which is also the destination of run copies from another.
+    pub fn living(page: Rc<Page>, other: Rc<Page>) -> Pool {
+        Pool::of(vec![page.clone()], vec![(page, other)], true)
+    }
+
     fn of(pages: Vec<Rc<Page>>, pairs: Vec<(Rc<Page>, Rc<Page>)>, given: bool) -> Pool {
         Pool {
             pages,

@@ -23,7 +23,7 @@ const BATCH: usize = 256;
 /// asked for, the run shows what it shall show.
 pub fn run(options: &Options) -> Result<bool, String> {
     let mut bench = bench(options)?;
-    println!("{}", introduction(options, &bench));
+    println!("{}", introduce(options, &bench, "cases", &options.calls));
     let mut tally = Tally::new();
     for &seed in &options.seeds {
         let mut generator = generator(options, seed)?;
@@ -45,23 +45,25 @@ pub fn run(options: &Options) -> Result<bool, String> {
     Ok(tally.disagreements() == 0 && short.is_empty())
 }
 
-fn bench(options: &Options) -> Result<Bench, String> {
+/// The judges that the options name.
+pub fn bench(options: &Options) -> Result<Bench, String> {
     match &options.ask {
         Some(command) => Bench::with_ask(command),
         None => Ok(Bench::alone()),
     }
 }
 
-fn introduction(options: &Options, bench: &Bench) -> String {
+/// What is put to whom, and which of the calls go to doradb and `plain` alone.
+pub fn introduce(options: &Options, bench: &Bench, what: &str, calls: &[u8]) -> String {
     let seeds: Vec<String> = options.seeds.iter().map(|seed| seed.to_string()).collect();
     let what = format!(
-        "{} cases from each of the seeds {}",
+        "{} {what} from each of the seeds {}",
         options.count,
         seeds.join(", ")
     );
     let silent: Vec<&str> = CALLS
         .iter()
-        .filter(|call| options.calls.contains(&call.number) && !bench.asks(call.number))
+        .filter(|call| calls.contains(&call.number) && !bench.asks(call.number))
         .map(|call| call.name)
         .collect();
     let judges = match (&options.ask, silent.is_empty()) {

@@ -6,6 +6,7 @@ use crate::case::Case;
 use crate::differ::{self, Disagreement};
 use crate::judges::Verdict;
 use crate::pages::Page;
+use crate::sequences::Turn;
 use plain::protocol::{Reply, Request};
 use std::rc::Rc;
 
@@ -46,6 +47,36 @@ impl Talk {
         talk
     }
 
+    /// Plans the talk about turns of a sequence, whose pages live on in the
+    /// registers: every edited page is dumped at once, and so is what must still
+    /// be as it was. What a call does that the program does not answer is loaded.
+    pub fn live(turns: &[Turn], answers: impl Fn(u8) -> bool) -> Talk {
+        let mut talk = Talk {
+            exchanges: Vec::new(),
+            requests: Vec::new(),
+            held: [None, None],
+        };
+        for (at, turn) in turns.iter().enumerate() {
+            for (place, page) in &turn.loads {
+                talk.push(at, Check::Load, load(*place, &page.bytes));
+            }
+            let request = &turn.case.request;
+            let place = usize::from(request.page);
+            let paper = &turn.judged.paper;
+            if answers(request.call) {
+                talk.push(at, Check::Answer, request.clone());
+                talk.push(at, Check::After, register(calls::DUMP, place));
+            } else if let Some(after) = paper.after.as_ref().filter(|_| paper.reply.number == 0) {
+                talk.push(at, Check::Load, load(place, after));
+            }
+            for (place, page) in &turn.held {
+                let check = Check::Unchanged(page.clone());
+                talk.push(at, check, register(calls::DUMP, *place));
+            }
+        }
+        talk
+    }
+
     /// The requests, to be sent.
     pub fn requests(&mut self) -> Vec<Request> {
         std::mem::take(&mut self.requests)
@@ -74,11 +105,7 @@ impl Talk {
             }
         }
         self.release(place);
-        let load = Request {
-            first: page.bytes.clone(),
-            ..register(calls::LOAD, place)
-        };
-        self.push(at, Check::Load, load);
+        self.push(at, Check::Load, load(place, &page.bytes));
         self.held[place] = Some((page.clone(), at));
     }
 
@@ -156,6 +183,13 @@ fn silent(verdict: &Verdict, silence: String) -> Disagreement {
         paper: differ::words(&verdict.reply),
         theirs: silence,
         first: "an answer".into(),
+    }
+}
+
+fn load(place: usize, bytes: &[u8]) -> Request {
+    Request {
+        first: bytes.to_vec(),
+        ..register(calls::LOAD, place)
     }
 }
 

@@ -31,6 +31,14 @@ fn one_seed_gives_one_run() {
 }
 
 #[test]
+fn sequences_agree_and_show_what_they_shall() {
+    let arguments = ["sequences", "--count", "30000", "--ask", "none", "--shows"];
+    let [one, other] = [0, 1].map(|_| compare(&arguments));
+    assert_eq!(one.status.code(), Some(0), "{}", text(&one));
+    assert_eq!(text(&one), text(&other));
+}
+
+#[test]
 fn given_pages_are_compared() {
     let name = Path::new(env!("CARGO_TARGET_TMPDIR")).join("given.page");
     let mut page = vec![0; plain::PAGE];
@@ -99,6 +107,7 @@ fn unknown_words_get_the_usage() {
         &["run", "--speed", "3"],
         &["run", "--count", "x"],
         &["run", "--calls", "0"],
+        &["sequences", "--count", "0"],
     ] {
         assert_eq!(compare(arguments).status.code(), Some(2));
     }

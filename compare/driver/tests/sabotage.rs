@@ -136,6 +136,16 @@ fn run(server: &Path, patience: &str) -> Output {
         .unwrap()
 }
 
+/// Sequences of edits with a server as `ask`.
+fn sequences(server: &Path, count: &str) -> Output {
+    Command::new(env!("CARGO_BIN_EXE_compare"))
+        .args(["sequences", "--seed", "5", "--count", count])
+        .args(["--tell", "1", "--ask"])
+        .arg(format!("'{}'", server.display()))
+        .output()
+        .unwrap()
+}
+
 fn text(output: &Output) -> String {
     String::from_utf8_lossy(&output.stdout).into()
 }
@@ -228,5 +238,55 @@ fn a_disagreement_is_made_small() {
         told.contains("first difference (paper against ask): number 0 against 15"),
         "{told}"
     );
+    fs::remove_dir_all(&room).unwrap();
+}
+
+#[test]
+fn the_right_version_agrees_in_sequences() {
+    let room = copy("lasting");
+    let output = sequences(&built(&room), "8000");
+    assert_eq!(output.status.code(), Some(0), "{}", text(&output));
+    assert!(text(&output).contains("the longest of 1000 calls"));
+    fs::remove_dir_all(&room).unwrap();
+}
+
+#[test]
+fn wrong_versions_are_noticed_in_sequences() {
+    let marks = ["16-", "21-", "56-", "59-"];
+    for edit in edits() {
+        if !marks.iter().any(|mark| edit.name.starts_with(mark)) {
+            continue;
+        }
+        let room = copy(&format!("sequence-{}", edit.name));
+        edit.apply(&room);
+        let output = sequences(&built(&room), "8000");
+        assert_eq!(output.status.code(), Some(1), "{}: not noticed", edit.name);
+        assert!(
+            text(&output).contains("DISAGREEMENT of ask"),
+            "{}",
+            edit.name
+        );
+        fs::remove_dir_all(&room).unwrap();
+    }
+}
+
+#[test]
+fn a_refused_edit_that_changes_its_page_is_noticed_in_sequences() {
+    let room = copy("scratching");
+    let answer = "reply(calls::insert(page, width, key, a), index)";
+    let edit = Edit {
+        name: "scratching".into(),
+        file: "src/ask.rs".into(),
+        old: format!("3 => {answer},"),
+        new: format!(
+            "3 => {{ let reply = {answer}; if reply.number == 11 {{ page[16_300] ^= 1; }} reply }}"
+        ),
+    };
+    edit.apply(&room);
+    let output = sequences(&built(&room), "8000");
+    assert_eq!(output.status.code(), Some(1));
+    let told = text(&output);
+    assert!(told.contains("in insert (seed 5, sequence "), "{told}");
+    assert!(told.contains("the page afterwards, byte 16300"), "{told}");
     fs::remove_dir_all(&room).unwrap();
 }

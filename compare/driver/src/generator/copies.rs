@@ -25,7 +25,7 @@ impl Generator {
         self.run_copy_of(page, other, first as u64, n as u64)
     }
 
-    fn run_copy_of(&mut self, page: Rc<Page>, other: Rc<Page>, a: u64, b: u64) -> Case {
+    pub(super) fn run_copy_of(&mut self, page: Rc<Page>, other: Rc<Page>, a: u64, b: u64) -> Case {
         let width = page.facts.width;
         let request = Request {
             call: calls::RUN_COPY,

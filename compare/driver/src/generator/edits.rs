@@ -25,7 +25,7 @@ impl Generator {
         self.insert_of(page, key, value)
     }
 
-    fn insert_of(&mut self, page: Rc<Page>, first: Vec<u8>, a: u64) -> Case {
+    pub(super) fn insert_of(&mut self, page: Rc<Page>, first: Vec<u8>, a: u64) -> Case {
         let width = page.facts.width;
         Case::new(
             page,

@@ -9,6 +9,7 @@ mod edits;
 mod searches;
 mod slots;
 mod sums;
+mod turns;
 
 use crate::batch::record;
 use crate::calls::{self, Call};
@@ -20,6 +21,8 @@ use crate::pool::Pool;
 use crate::random::Random;
 use plain::protocol::Request;
 use std::rc::Rc;
+
+pub use turns::Course;
 
 /// Widths that no value has.
 const BAD_WIDTHS: [u8; 8] = [2, 3, 4, 7, 9, 16, 128, 255];
