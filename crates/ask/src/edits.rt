@@ -23,7 +23,12 @@ pub(crate) fn edit(store: &mut [u8], r: usize, first: &[u8], second: &mut [u8], 
     }
     let at = 82004 * r + 4;
     let n = registers::content_len(store, r);
-    edit_page(&mut store[at..at + n], wire::front(first, q.n), wire::front(second, q.m), q)
+    edit_page(
+        &mut store[at..at + n],
+        wire::front(first, q.n),
+        wire::front(second, q.m),
+        q,
+    )
 }
 
 // Answers an edit of one page.
@@ -79,7 +84,13 @@ fn run_copied(store: &mut [u8], r: usize, room: &mut [u8], q: Request) -> bool
     let at = 82004 * r + 4;
     let n = registers::content_len(store, r);
     let page = &mut store[at..at + n];
-    let done = copy::copy_run(page, wire::front(room, m), q.width, q.a as usize, q.b as usize);
+    let done = copy::copy_run(
+        page,
+        wire::front(room, m),
+        q.width,
+        q.a as usize,
+        q.b as usize,
+    );
     wire::tell(answer::edited(done))
 }
 
