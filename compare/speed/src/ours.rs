@@ -75,6 +75,31 @@ mod c {
         ) -> Answer;
         pub fn dorgumanna_layout(p: *const u8, n: usize, width: u8) -> Answer;
         pub fn dorgumanna_fit(p: *const u8, n: usize, width: u8) -> Answer;
+        pub fn dorgumanna_insert(
+            p: *mut u8,
+            n: usize,
+            width: u8,
+            key: *const u8,
+            k: usize,
+            value: u64,
+        ) -> Answer;
+        pub fn dorgumanna_set_value(
+            p: *mut u8,
+            n: usize,
+            width: u8,
+            key: *const u8,
+            k: usize,
+            expected: u64,
+            new: u64,
+        ) -> Answer;
+        pub fn dorgumanna_change_key(
+            p: *mut u8,
+            n: usize,
+            width: u8,
+            slot: usize,
+            key: *const u8,
+            k: usize,
+        ) -> Answer;
     }
 }
 
@@ -148,4 +173,22 @@ pub fn layout(page: &[u8]) -> Answer {
 #[inline(always)]
 pub fn fit(page: &[u8]) -> Answer {
     unsafe { c::dorgumanna_fit(page.as_ptr(), page.len(), 8) }
+}
+
+#[inline(always)]
+pub fn insert(page: &mut [u8], key: &[u8], value: u64) -> Answer {
+    let (p, n) = (page.as_mut_ptr(), page.len());
+    unsafe { c::dorgumanna_insert(p, n, 8, key.as_ptr(), key.len(), value) }
+}
+
+#[inline(always)]
+pub fn set_value(page: &mut [u8], key: &[u8], expected: u64, new: u64) -> Answer {
+    let (p, n) = (page.as_mut_ptr(), page.len());
+    unsafe { c::dorgumanna_set_value(p, n, 8, key.as_ptr(), key.len(), expected, new) }
+}
+
+#[inline(always)]
+pub fn change_key(page: &mut [u8], slot: usize, key: &[u8]) -> Answer {
+    let (p, n) = (page.as_mut_ptr(), page.len());
+    unsafe { c::dorgumanna_change_key(p, n, 8, slot, key.as_ptr(), key.len()) }
 }

@@ -63,6 +63,7 @@ fn answer(answer: ours::Answer) -> u64 {
 
 thread_local! {
     static SCRATCH: RefCell<Box<Page>> = RefCell::new(Page::of(&[0; oracle::PAGE_SIZE]).expect("a page's bytes"));
+    static BYTES: RefCell<[u8; oracle::PAGE_SIZE]> = const { RefCell::new([0; oracle::PAGE_SIZE]) };
     static OUT: RefCell<[u8; 256]> = const { RefCell::new([0; 256]) };
 }
 
@@ -193,7 +194,7 @@ pub fn edits() -> Vec<Row> {
     vec![
         Row {
             name: "insert",
-            ours: None,
+            ours: edit_ours(|page, p| answer(ours::insert(page, &p.absent, 7))),
             alone: edit(|page, p| oracle::insert(page, Width::Eight, &p.absent, 7) as u64),
             checked: edit(|page, p| {
                 assert!(timed::layout(page));
@@ -203,7 +204,7 @@ pub fn edits() -> Vec<Row> {
         },
         Row {
             name: "set value",
-            ours: None,
+            ours: edit_ours(|page, p| answer(ours::set_value(page, &p.present, p.value, 7))),
             alone: edit(|page, p| {
                 stored(oracle::set_value(
                     page,
@@ -227,7 +228,7 @@ pub fn edits() -> Vec<Row> {
         },
         Row {
             name: "change key",
-            ours: None,
+            ours: edit_ours(|page, p| answer(ours::change_key(page, p.slot, &p.near))),
             alone: edit(changed),
             checked: edit(|page, p| {
                 assert!(timed::layout(page));
@@ -255,6 +256,16 @@ fn edit(call: impl Fn(&mut Page, &Probe) -> u64 + 'static) -> Option<Side> {
     side(move |c, p| {
         SCRATCH.with_borrow_mut(|page| {
             page.clone_from(&c.page);
+            call(page, p)
+        })
+    })
+}
+
+/// The same of ours, on the page's bytes.
+fn edit_ours(call: impl Fn(&mut [u8], &Probe) -> u64 + 'static) -> Option<Side> {
+    side(move |c, p| {
+        BYTES.with_borrow_mut(|page| {
+            page.copy_from_slice(c.page.bytes());
             call(page, p)
         })
     })
