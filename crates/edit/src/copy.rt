@@ -82,7 +82,7 @@ fn entries_stand(p: &[u8], h: Header, q: &[u8], prefix_len: u16, a: usize, n: us
 {
     let prefix = key::prefix(q, prefix_len);
     let whole = key::prefix(p, h.prefix_len);
-    let cut = cut::least(whole.len(), prefix.len());
+    let cut = copy::least(whole.len(), prefix.len());
     let alike = shared::equal(&prefix[..cut], &whole[..cut]);
     stand_from(p, h, q, prefix, cut, alike, a, n)
 }
@@ -113,7 +113,7 @@ fn above_last(p: &[u8], h: Header, q: &[u8], prefix_len: u16, a: usize) -> bool
     let s = header::read_slot(q, 96 + 8 * a);
     let prefix = key::prefix(q, prefix_len);
     let gone = h.prefix_len as usize;
-    let cut = cut::least(gone, prefix.len());
+    let cut = copy::least(gone, prefix.len());
     pieces_above(p, last, &prefix[cut..], q, s, gone - cut)
 }
 
@@ -151,7 +151,7 @@ fn entry_need(width: u8, gone: u16, q: &[u8], prefix_len: u16, j: usize) -> usiz
 {
     let s = header::read_slot(q, 96 + 8 * j);
     let whole = (prefix_len as usize) + (s.len as usize);
-    let cut = cut::least(gone as usize, whole);
+    let cut = copy::least(gone as usize, whole);
     8 + (width as usize) + space::body_bytes(4, whole - cut)
 }
 

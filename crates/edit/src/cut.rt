@@ -1,7 +1,6 @@
 // A source key, in two pieces: where it stands to the destination's prefix, fences and slots. No key is put together.
 ghost use mathlib.Core.Path.{_≡_};
 ghost use mathlib.Core.List.{_++_};
-ghost use Prim.Native.Nat.{min};
 ghost use lib.ListN.{length};
 ghost use Rattle.keys.specs.Keys.{order};
 ghost use Rattle.paper.specs.Lists.{less};
@@ -115,14 +114,4 @@ pub(crate) fn stands(
         return Edited::Refused(Refusal::OutsideFences);
     }
     Edited::Done
-}
-
-// The lesser of two numbers.
-pub(crate) fn least(a: usize, b: usize) -> usize
-    ensures { λ r. ⌜ r ≡ min a b ⌝ }
-{
-    if a <= b {
-        return a;
-    }
-    b
 }

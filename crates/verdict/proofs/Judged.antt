@@ -16,7 +16,8 @@ use Rattle.paper.specs.declared.page.Slot.{Slot}
 use Rattle.paper.proofs.Lists.{tab-ext}
 use Rattle.paper.proofs.Stages.{hint-slot, headAt-rows}
 use Rattle.hint.proofs.Refreshed.{used-many}
-use Rattle.verdict.specs.Tally.{suffixAt, insideWith, tallyOf, fencesRiseWith, fencesFaithfulWith, fencesFitWith, effectiveWith, hintsFreshWith}
+use Rattle.search.specs.Fence.{insideBy}
+use Rattle.verdict.specs.Tally.{suffixAt, tallyOf, fencesRiseWith, fencesFaithfulWith, fencesFitWith, effectiveWith, hintsFreshWith}
 
 -- ---- lists that are tabulated
 module _ {A B : Type 0} where
@@ -54,8 +55,8 @@ module _ (w : ℕ) (p : List ℕ) where
   unfolding viewOf rowOf
   keys-are = map-tab (keyOf (frameOf p)) (numbersOf p .count) (λ i. rowOf w p (slotOf p i))
 
-  inside-is : (s : List ℕ) → inside (frameOf p) (pre ++ s) ≡ insideWith p (headerOf p) s
-  unfolding inside upperEmpty insideWith headerOf frameOf
+  inside-is : (s : List ℕ) → inside (frameOf p) (pre ++ s) ≡ insideBy p (headerOf p) s
+  unfolding inside upperEmpty insideBy headerOf frameOf
   inside-is s = rw (less-append pre s (suffixOf p (frameOf p .lower)), less-append pre s (suffixOf p (frameOf p .upper)))
 
   pub u4-is : u4 (viewOf w p) ≡ both (fencesFaithfulWith p (headerOf p)) (tallyOf w p (headerOf p) (headerOf p .count) .faithful)
@@ -70,7 +71,7 @@ module _ (w : ℕ) (p : List ℕ) where
 
   pub u6-is : u6 (viewOf w p) ≡ tallyOf w p (headerOf p) (headerOf p .count) .inside
   unfolding u6 viewOf tallyOf headerOf
-  u6-is = rw keys-are (all-tab (inside (frameOf p)) (insideWith p (headerOf p)) (numbersOf p .count) (λ i. pre ++ suffixAt p i) (suffixAt p) (λ i. inside-is (suffixAt p i)))
+  u6-is = rw keys-are (all-tab (inside (frameOf p)) (insideBy p (headerOf p)) (numbersOf p .count) (λ i. pre ++ suffixAt p i) (suffixAt p) (λ i. inside-is (suffixAt p i)))
 
   pub u7-is : u7 (viewOf w p) ≡ tallyOf w p (headerOf p) (headerOf p .count) .rising
   unfolding u7 tallyOf headerOf

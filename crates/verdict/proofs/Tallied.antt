@@ -25,7 +25,8 @@ use Rattle.node.proofs.Rules.{rules-in}
 use Rattle.verdict.specs.declared.tally.Tally.{Tally}
 use Rattle.verdict.specs.Honest.{Turn}
 use Rattle.verdict.specs.Pieces.{heldWith}
-use Rattle.verdict.specs.Tally.{honestOf, suffixAt, insideWith, tallyOf}
+use Rattle.search.specs.Fence.{insideBy}
+use Rattle.verdict.specs.Tally.{honestOf, suffixAt, tallyOf}
 use Rattle.verdict.proofs.Suffixes.{honest-suffix}
 
 -- ---- lists with one element more at the end
@@ -88,9 +89,9 @@ module _ (p : List ℕ) (bytes : IsBytes p) where
 
     inside-turn : (f : Bool) → f ≡ both (not (less (suffixOf p s) (suffixOf p low))) (pick (eqb (high .len) 0) true (less (suffixOf p s) (suffixOf p high)))
         → t .inside && f ≡ tallyOf w p h (suc i) .inside
-    unfolding tallyOf insideWith
+    unfolding tallyOf insideBy
     inside-turn f e =
-        rw (turn .tally, e, suffix-is i s (turn .slot), turn .lower, turn .upper, turn .upper-len) (sym (all-more (insideWith p h) i (suffixAt p)))
+        rw (turn .tally, e, suffix-is i s (turn .slot), turn .lower, turn .upper, turn .upper-len) (sym (all-more (insideBy p h) i (suffixAt p)))
 
     rising-turn : (b : Bool) → b ≡ less (suffixOf p last) (suffixOf p s) → t .rising && (eqb i 0 || b) ≡ tallyOf w p h (suc i) .rising
     unfolding tallyOf

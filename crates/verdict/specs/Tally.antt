@@ -1,6 +1,6 @@
 -- U4 to U9 by a header that was read. Keys of a page share its prefix, so suffixes stand for them.
 use Prim.Native.Nat.{ℕ, _+_}
-use mathlib.Core.Bool.{Bool, true, not}
+use mathlib.Core.Bool.{Bool, true}
 use mathlib.Core.List.{List}
 use lib.Dec.{eqb}
 use Rattle.keys.specs.Choice.{pick, both}
@@ -12,6 +12,7 @@ use Rattle.paper.specs.Hints.{inUse, fresh}
 use Rattle.paper.specs.Verdicts.{faithful}
 use Rattle.paper.specs.declared.page.Slot.{Slot}
 use Rattle.paper.specs.declared.page.Header.{Header}
+use Rattle.search.specs.Fence.{insideBy}
 use Rattle.verdict.specs.declared.tally.Tally.{Tally}
 
 -- a slot with the head that its suffix has
@@ -22,17 +23,12 @@ honestOf p s = record { len = s .len; offset = s .offset; head = headOf (suffixO
 abbrev pub suffixAt : List ℕ → ℕ → List ℕ
 suffixAt p i = suffixOf p (slotOf p i)
 
--- "lower fence included, upper excluded", of a suffix
-unfoldable pub insideWith : List ℕ → Header → List ℕ → Bool
-insideWith p h s =
-    both (not (less s (suffixOf p (h .lower)))) (pick (eqb (h .upper .len) 0) true (less s (suffixOf p (h .upper))))
-
 -- what the first n entries say of U4, U6, U7 and U8
 unfoldable pub tallyOf : ℕ → List ℕ → Header → ℕ → Tally
 tallyOf w p h n =
     record {
       faithful = all (λ s. faithful s (suffixOf p s)) (tab n (slotOf p));
-      inside = all (insideWith p h) (tab n (suffixAt p));
+      inside = all (insideBy p h) (tab n (suffixAt p));
       rising = rising (tab n (suffixAt p));
       needs = sum (λ (s : Slot). need w (s .len)) (tab n (slotOf p));
     }

@@ -40,7 +40,7 @@ fn file_two(p: &mut [u8], h: Header, width: u8, lead: &[u8], rest: &[u8], value:
 }
 
 // The lesser of two numbers.
-fn least(a: usize, b: usize) -> usize
+pub fn least(a: usize, b: usize) -> usize
     ensures { λ r. ⌜ r ≡ min a b ⌝ }
 {
     if a <= b {
