@@ -98,24 +98,24 @@ module _ (p k : List ℕ) (h : Header) (e : h ≡ headerOf p) (c : ℕ) (f : c �
 
     -- on a fit page the search finds what the scan does
     module _ (size : length p ≡ 16384) (fitted : fitOf 8 p ≡ 0) (b : IsBytes p) (hk : IsBytes k) where
-      scanned : searched true 8 p h x ≡ Bound·At (scan true k (listing 8 p))
-      scanned = searched-scan 8 p size b (fits p fitted) k hk has h e x d true
+      scanned : searched true 8 p (headerOf p) x ≡ Bound·At (scan true k (listing 8 p))
+      scanned = searched-scan 8 p size b (fits p fitted) k hk has x d true
 
-      pub child-no-bound : (q : Refusal) → searched true 8 p h x ≡ Bound·Refused q → ⊥
+      pub child-no-bound : (q : Refusal) → searched true 8 p (headerOf p) x ≡ Bound·Refused q → ⊥
       child-no-bound q l = let a : Bound·At (scan true k (listing 8 p)) ≡ Bound·Refused q = sym scanned ∙ l in let z : _≡_ {A = ℕ} 0 1 = cc in omega arith
 
-      same-scan : (n : ℕ) → searched true 8 p h x ≡ Bound·At n → n ≡ scan true k (listing 8 p)
+      same-scan : (n : ℕ) → searched true 8 p (headerOf p) x ≡ Bound·At n → n ≡ scan true k (listing 8 p)
       same-scan n l = let a : Bound·At n ≡ Bound·At (scan true k (listing 8 p)) = sym l ∙ scanned in cc
 
       -- it passes no more keys than there are
-      pub child-few : (n : ℕ) → searched true 8 p h x ≡ Bound·At n → (n ≤ numbersOf p .count) × (8 * n ≤ 16256)
+      pub child-few : (n : ℕ) → searched true 8 p (headerOf p) x ≡ Bound·At n → (n ≤ numbersOf p .count) × (8 * n ≤ 16256)
       child-few n l =
           let R = header-rules p size fitted in
           let m = r-le 8 p size b (fits p fitted) true k in
           let q = same-scan n l in
           (omega arith, omega (arith, R .start, R .order, R .top))
 
-      pub child-found : (n : ℕ) → t ≡ true → searched true 8 p h x ≡ Bound·At n → childWith p k ≡ childAt (h .«lower_value») (listing 8 p) n
+      pub child-found : (n : ℕ) → t ≡ true → searched true 8 p (headerOf p) x ≡ Bound·At n → childWith p k ≡ childAt (h .«lower_value») (listing 8 p) n
       unfolding childWith judge childScan headerOf
       child-found n l m = rw (has, lies, l, same-scan n m, e)
 

@@ -48,7 +48,7 @@ fn child_with(p: &[u8], h: Header, key: &[u8]) -> Child
     if !fence::inside(p, h, suffix) {
         return Child::Refused(Refusal::OutsideFences);
     }
-    let b = bound::search_slots(p, h, 8, suffix, true);
+    let b = bound::bound_at(p, 8, suffix, true);
     let Bound::At(n) = b else {
         return Child::Refused(bound::why_no_bound(b));
     };

@@ -87,10 +87,10 @@ module _ (w : ℕ) (p k : List ℕ) (v : ℕ) (h : Header) (T : Tested w p (leng
         by-scan true r = refl
         by-scan false r = refl
 
-        pub place-found : (y : Found) → y ≡ findIn w p h x → insertWith w p k v ≡ placeBy room y
+        pub place-found : (y : Found) → y ≡ findIn w p (headerOf p) x → insertWith w p k v ≡ placeBy room y
         unfolding insertWith judge findScan
         place-found y m =
-            let found = found-scan w p (T .size) b (tested-fit w p (length k) h T) k hk has h (T .header) x d in
+            let found = found-scan w p (T .size) b (tested-fit w p (length k) h T) k hk has x d in
             rw (m, found, ← a, fits, has, lies, inner, room-of) (by-scan (all (differ k) (keys (listing w p))) (scan false k (listing w p)))
 
 -- ---- the page

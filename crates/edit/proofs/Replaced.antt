@@ -10,7 +10,7 @@ use lib.ListN.{length}
 use Rattle.octets.specs.Bytes.{IsBytes, le}
 use Rattle.keys.specs.Choice.{pick, both}
 use Rattle.paper.specs.Lists.{all, differ}
-use Rattle.paper.specs.Page.{slotAt, place, slotOf, valueAt, frameOf, numbersOf}
+use Rattle.paper.specs.Page.{slotAt, place, slotOf, valueAt, frameOf, numbersOf, headerOf}
 use Rattle.paper.specs.Space.{payloadBytes}
 use Rattle.paper.specs.Listing.{listing, keys}
 use Rattle.paper.specs.Refusals.{judge}
@@ -108,13 +108,13 @@ module _ (w : ℕ) (p k : List ℕ) (expected new : ℕ) (h : Header) (T : Teste
       unfolding heldWith judge
       held-lacks g = rw (← a, fits, ← d, fits-new, lacks-prefix p k h (T .header) c f g)
 
-      module _ (one : c ≡ 1) (x : List ℕ) (m : x ≡ probeSuffix (frameOf p) k) (b : IsBytes p) (hk : IsBytes k) (y : Found) (found : y ≡ findIn w p h x) where
+      module _ (one : c ≡ 1) (x : List ℕ) (m : x ≡ probeSuffix (frameOf p) k) (b : IsBytes p) (hk : IsBytes k) (y : Found) (found : y ≡ findIn w p (headerOf p) x) where
         has : hasPrefix (frameOf p) k ≡ true
         has = has-prefix p k h (T .header) c f one
 
         scanned : pick (all (differ k) (keys (listing w p))) (Smaller (scan false k (listing w p))) (Equal (scan false k (listing w p))) ≡ y
         unfolding findScan
-        scanned = sym (found ∙ found-scan w p (T .size) b (tested-fit w p (length k) h T) k hk has h (T .header) x m)
+        scanned = sym (found ∙ found-scan w p (T .size) b (tested-fit w p (length k) h T) k hk has x m)
 
         pub held-none : (i : ℕ) → y ≡ Smaller i → heldWith w p k expected new ≡ Held·Refused NotFound
         unfolding heldWith judge

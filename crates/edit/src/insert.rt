@@ -65,7 +65,7 @@ fn place(p: &[u8], h: Header, width: u8, key: &[u8], value: u64) -> Filed
         return Filed::Refused(Refusal::OutsideFences);
     }
     let room = has_room(h, width, suffix.len());
-    place_by(room, find::find_in(p, h, width, suffix))
+    place_by(room, find::find_at(p, width, suffix))
 }
 
 // Insert on a page that is fit and has this header: 7, 8, 9, 11, 13.

@@ -55,7 +55,7 @@ fn find_held(p: &[u8], h: Header, width: u8, key: &[u8], expected: u64, new: u64
     if probe::class(p, h.prefix_len, key) != 1 {
         return Held::Refused(Refusal::Prefix);
     }
-    match find::find_in(p, h, width, probe::suffix(p, key)) {
+    match find::find_at(p, width, probe::suffix(p, key)) {
         Found::Equal(i) => held_at(p, width, i, expected),
         Found::Smaller(_) => Held::Refused(Refusal::NotFound),
         Found::Refused(r) => Held::Refused(r),

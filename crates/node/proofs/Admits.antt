@@ -1,15 +1,16 @@
 -- The judgements that every read begins with, case by case: what code knows at each answer, and what an answer says of the page. Assumes nothing.
-use mathlib.Core.Path.{_≡_, sym, ap}
-use mathlib.Core.Bool.{true, false}
-use mathlib.Core.List.{List}
+use mathlib.Core.Path.{_≡_, refl, sym, ap}
+use mathlib.Core.Bool.{Bool, true, false}
+use mathlib.Core.List.{List, [], _∷_}
 use Prim.Native.Nat.{ℕ, _*_, _≤_, _<_}
 use native.Mathlib.Omega.{arith}
 use borrow.Author.Tests.{eqb-true, leb-true, le-ltb, lt-ltb}
 use lib.Dec.{leb, eqb}
 use lib.ListN.{length}
+use Rattle.keys.specs.Choice.{pick}
 use Rattle.paper.specs.Page.{slotAt, place, slotOf, frameOf, numbersOf, headerOf}
 use Rattle.paper.specs.Verdicts.{slotPayload, within, headerRules}
-use Rattle.paper.specs.Refusals.{judge}
+use Rattle.paper.specs.Refusals.{check, judge}
 use Rattle.paper.specs.Calls.{isWidth}
 use Rattle.paper.specs.declared.page.Slot.{Slot}
 use Rattle.paper.specs.declared.page.Header.{Header}
@@ -18,8 +19,9 @@ use Rattle.paper.specs.declared.refusal.Refusal.the-variants.{SlotNumber, Paylo
 use Rattle.paper.specs.Lists.{all}
 use Rattle.paper.proofs.Lists.{both-parts}
 use Rattle.paper.proofs.Fit.{Rules, rules}
+use Rattle.paper.proofs.Sorted.{never}
 use Rattle.paper.proofs.Holding.{Hold, judge-hold, hold-judge, refused-judge}
-use Rattle.node.specs.Admit.{admitChecks, admitOf, slotChecks, slotReadOf}
+use Rattle.node.specs.Admit.{admitChecks, admitOf, admitsOf, refusalOf, slotChecks, slotReadOf}
 use Rattle.node.specs.declared.admit.Admitted.the-variants.{Is as Admitted·Is, Refused as Admitted·Refused}
 use Rattle.node.specs.declared.slots.SlotRead.the-variants.{Is as Slot·Is, Refused as Slot·Refused}
 
@@ -91,6 +93,31 @@ module _ (w : ℕ) (p : List ℕ) (n : ℕ) where
   pub refused-admit : (q : Refusal) → admitOf w p n ≡ Admitted·Refused q → {A : Type 0} (a : A) (r : Refusal → A) → judge (admitChecks w p n) a r ≡ r q
   unfolding admitOf
   refused-admit q e a r = refused-judge (admitChecks w p n) (Admitted·Is (headerOf p)) Admitted·Refused q (λ x k. refused-is x q k) (is-not (headerOf p) q) e a r
+
+-- ---- the same of the test alone
+pub as-it-is : (b : Bool) → pick b true false ≡ b
+as-it-is true = refl
+as-it-is false = refl
+
+-- the last of four tests decides where the others hold
+last-of : {A : Type 0} (a b c d : Bool) (x : Refusal) (y : Refusal) (z : Refusal) (t : Refusal) (is : A) (r : Refusal → A)
+    → judge (check a x ∷ check b y ∷ check c z ∷ check d t ∷ []) true (λ _. false) ≡ false
+    → judge (check a x ∷ check b y ∷ check c z ∷ check d t ∷ []) is r ≡ r (judge (check a x ∷ check b y ∷ check c z ∷ []) t (λ q. q))
+unfolding judge
+last-of false b c d x y z t is r e = refl
+last-of true false c d x y z t is r e = refl
+last-of true true false d x y z t is r e = refl
+last-of true true true false x y z t is r e = refl
+last-of true true true true x y z t is r e = never true refl e
+
+module _ (w : ℕ) (p : List ℕ) (n : ℕ) where
+  pub admits-is : admitsOf w p n ≡ true → admitOf w p n ≡ Admitted·Is (headerOf p)
+  unfolding admitsOf admitOf
+  admits-is e = judge-hold (admitChecks w p n) (Admitted·Is (headerOf p)) Admitted·Refused (hold-judge (admitChecks w p n) true true (λ r. false) (λ q k. never true refl (sym k)) e)
+
+  pub admits-not : admitsOf w p n ≡ false → admitOf w p n ≡ Admitted·Refused (refusalOf w p n)
+  unfolding admitsOf admitOf refusalOf
+  admits-not e = last-of (eqb (length p) 16384) (isWidth w) (leb n 65535) (headerRules (frameOf p) (numbersOf p)) _ _ _ _ (Admitted·Is (headerOf p)) Admitted·Refused e
 
 -- ---- a slot that is visited
 module _ (w : ℕ) (p : List ℕ) (count end i : ℕ) where

@@ -1,5 +1,6 @@
 -- The tests that every read begins with, and those of a slot that is read: 1, 2, 3, 4 and 10, 14.
 use Prim.Native.Nat.{ℕ}
+use mathlib.Core.Bool.{Bool, true, false}
 use mathlib.Core.List.{List, [], _∷_}
 use lib.Dec.{leb, ltb}
 use Rattle.paper.specs.Page.{slotOf, headerOf}
@@ -8,7 +9,7 @@ use Rattle.paper.specs.Refusals.{Check, check, judge}
 use Rattle.paper.specs.Calls.{pageLength, widthKnown, rulesHold, entryTests}
 use Rattle.paper.specs.declared.page.Slot.{Slot}
 use Rattle.paper.specs.declared.refusal.Refusal.{Refusal}
-use Rattle.paper.specs.declared.refusal.Refusal.the-variants.{PageLength, KeyLength, SlotNumber, Payload}
+use Rattle.paper.specs.declared.refusal.Refusal.the-variants.{PageLength, KeyLength, HeaderRules, SlotNumber, Payload}
 use Rattle.node.specs.declared.admit.Admitted.{Admitted}
 use Rattle.node.specs.declared.admit.Admitted.the-variants.{Is as Admitted·Is, Refused as Admitted·Refused}
 use Rattle.node.specs.declared.entry.Opened.{Opened}
@@ -22,6 +23,14 @@ admitChecks w p n = pageLength p ∷ widthKnown w ∷ check (leb n 65535) KeyLen
 
 unfoldable pub admitOf : ℕ → List ℕ → ℕ → Admitted
 admitOf w p n = judge (admitChecks w p n) (Admitted·Is (headerOf p)) Admitted·Refused
+
+-- whether it may be read
+unfoldable pub admitsOf : ℕ → List ℕ → ℕ → Bool
+admitsOf w p n = judge (admitChecks w p n) true (λ r. false)
+
+-- and why not: the first of 1, 2, 3 that is given, else 4
+unfoldable pub refusalOf : ℕ → List ℕ → ℕ → Refusal
+refusalOf w p n = judge (pageLength p ∷ widthKnown w ∷ check (leb n 65535) KeyLength ∷ []) HeaderRules (λ r. r)
 
 -- why a page was not admitted
 unfoldable pub whyNot : Admitted → Refusal

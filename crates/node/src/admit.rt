@@ -1,7 +1,7 @@
 // The tests that every read begins with: the page's length, the width, the key's length, the header rules.
 ghost use mathlib.Core.Path.{_≡_};
 ghost use Rattle.paper.specs.Calls.{isWidth};
-ghost use Rattle.node.specs.Admit.{admitOf, whyNot};
+ghost use Rattle.node.specs.Admit.{admitOf, admitsOf, refusalOf, whyNot};
 use crate::header;
 use paper::page::Header;
 use paper::refusal::Refusal;
@@ -23,6 +23,39 @@ pub fn known_width(width: u8) -> bool
         return true;
     }
     width == 8
+}
+
+// Whether a page may be read by a call whose key has `key_len` bytes: 1, 2, 3 and 4 are not given. The header stays where it
+// is: a call that goes on reads the numbers that it needs.
+pub fn admits(p: &[u8], width: u8, key_len: usize) -> bool
+    ensures { λ r. ⌜ r ≡ admitsOf width (now (p .entry)) «key_len» ⌝ }
+{
+    if p.len() != 16384 {
+        return false;
+    }
+    if !known_width(width) {
+        return false;
+    }
+    if 65535 < key_len {
+        return false;
+    }
+    header::rules_hold(header::read_header(p))
+}
+
+// Why a page may not be read: the first of 1, 2 and 3 that is given, else 4.
+pub fn why_refused(p: &[u8], width: u8, key_len: usize) -> Refusal
+    ensures { λ r. ⌜ r ≡ refusalOf width (now (p .entry)) «key_len» ⌝ }
+{
+    if p.len() != 16384 {
+        return Refusal::PageLength;
+    }
+    if !known_width(width) {
+        return Refusal::Width;
+    }
+    if 65535 < key_len {
+        return Refusal::KeyLength;
+    }
+    Refusal::HeaderRules
 }
 
 // 1, 2, 3 and 4 in this order, for a call whose key has `key_len` bytes; else the header.

@@ -27,7 +27,7 @@ use Rattle.hint.proofs.Windows.{window-within}
 use Rattle.search.specs.Probe.{classBy, classNumber}
 use Rattle.search.specs.Slot.{metAt, halved}
 use Rattle.search.specs.Bounds.{windowOf, searched, boundWith}
-use Rattle.search.specs.declared.bound.Window.{Window}
+use Rattle.search.specs.declared.seek.Window.{Window}
 use Rattle.search.proofs.Classes.{class-is, class-before, class-within, class-after, class-number-lt}
 
 -- ---- the window

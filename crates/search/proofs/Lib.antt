@@ -7,3 +7,4 @@ pub mod Found
 pub mod Signs
 pub mod Scans
 pub mod Asked
+pub mod Seeking

@@ -9,7 +9,6 @@ use Rattle.paper.specs.Page.{frameOf, headerOf, viewOf}
 use Rattle.paper.specs.Listing.{listing}
 use Rattle.paper.specs.Searches.{probeSuffix, scan, findScan}
 use Rattle.paper.specs.Calls.{hasPrefix}
-use Rattle.paper.specs.declared.page.Header.{Header}
 use Rattle.paper.specs.declared.answers.Bound.the-variants.{At as Bound·At}
 use Rattle.paper.proofs.Fit.{Fit}
 use Rattle.paper.proofs.Searching.{bound-scan, find-scan}
@@ -19,11 +18,11 @@ use Rattle.search.proofs.Classes.{prefix-same}
 use Rattle.search.proofs.Bounded.{searched-is}
 use Rattle.search.proofs.Found.{found-is}
 
--- h is the page's header, x the key's suffix
-module _ (w : ℕ) (p : List ℕ) (size : length p ≡ 16384) (b : IsBytes p) (F : Fit w (viewOf w p)) (k : List ℕ) (hk : IsBytes k) (held : hasPrefix (frameOf p) k ≡ true) (h : Header)
-    (e : h ≡ headerOf p) (x : List ℕ) (d : x ≡ probeSuffix (frameOf p) k) where
-  pub searched-scan : (u : Bool) → searched u w p h x ≡ Bound·At (scan u k (listing w p))
-  searched-scan u = rw (e, d) (searched-is u w p k (prefix-same p k held) ∙ bound-scan w p size b F u k hk)
+-- x is the key's suffix
+module _ (w : ℕ) (p : List ℕ) (size : length p ≡ 16384) (b : IsBytes p) (F : Fit w (viewOf w p)) (k : List ℕ) (hk : IsBytes k) (held : hasPrefix (frameOf p) k ≡ true)
+    (x : List ℕ) (d : x ≡ probeSuffix (frameOf p) k) where
+  pub searched-scan : (u : Bool) → searched u w p (headerOf p) x ≡ Bound·At (scan u k (listing w p))
+  searched-scan u = rw d (searched-is u w p k (prefix-same p k held) ∙ bound-scan w p size b F u k hk)
 
-  pub found-scan : findIn w p h x ≡ findScan k (listing w p)
-  found-scan = rw (e, d) (found-is w p k (prefix-same p k held) ∙ find-scan w p size b F k hk)
+  pub found-scan : findIn w p (headerOf p) x ≡ findScan k (listing w p)
+  found-scan = rw d (found-is w p k (prefix-same p k held) ∙ find-scan w p size b F k hk)

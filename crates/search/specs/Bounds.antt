@@ -14,7 +14,7 @@ use Rattle.paper.specs.declared.answers.Bound.{Bound}
 use Rattle.paper.specs.declared.answers.Bound.the-variants.{At as Bound·At, Refused as Bound·Refused}
 use Rattle.search.specs.Probe.{classBy}
 use Rattle.search.specs.Slot.{halved}
-use Rattle.search.specs.declared.bound.Window.{Window}
+use Rattle.search.specs.declared.seek.Window.{Window}
 
 -- the slots to search for a head
 unfoldable pub windowOf : List ℕ → ℕ → ℕ → ℕ → Window

@@ -1,5 +1,6 @@
 -- A slot against a probe's suffix, and halving over slots, by numbers that the header gave.
-use Prim.Native.Nat.{ℕ, _-_, min}
+use mathlib.Core.Path.{_≡_}
+use Prim.Native.Nat.{ℕ, _-_, _<_, min}
 use mathlib.Core.Bool.{Bool}
 use mathlib.Core.List.{List}
 use lib.Dec.{leb, ltb}
@@ -16,8 +17,10 @@ use Rattle.paper.specs.declared.refusal.Refusal.the-variants.{Payload}
 use Rattle.paper.specs.declared.answers.Met.{Met}
 use Rattle.paper.specs.declared.answers.Met.the-variants.{Is as Met·Is, Refused as Met·Refused}
 use Rattle.paper.specs.declared.answers.Bound.{Bound}
-use Rattle.paper.specs.declared.answers.Bound.the-variants.{At as Bound·At}
+use Rattle.paper.specs.declared.answers.Bound.the-variants.{At as Bound·At, Refused as Bound·Refused}
 use Rattle.node.specs.Admit.{slotChecks}
+use Rattle.search.specs.declared.halve.Halved.{Halved}
+use Rattle.search.specs.declared.halve.Halved.the-variants.{Same as Halved·Same, Above as Halved·Above, Unmet as Halved·Unmet, Refused as Halved·Refused}
 use Rattle.search.specs.declared.slot.Ranked.{Ranked}
 use Rattle.search.specs.declared.slot.Ranked.the-variants.{Told, Open}
 
@@ -42,3 +45,10 @@ whyNotMet (Met·Refused r) = r
 -- the slots low..high halved; hi - lo halvings are enough
 unfoldable pub halved : Bool → ℕ → List ℕ → ℕ → List ℕ → ℕ → ℕ → Bound
 halved u w p end s low high = halving (turn u) Bound·At (high - low) (metAt w p end s) low high
+
+-- how halving ended: where, and how the slot there met the suffix s, if it was visited
+abbrev pub Ends : Bool → ℕ → List ℕ → ℕ → List ℕ → ℕ → ℕ → Halved → Type 0
+Ends u w p end s low high (Halved·Same i) = (halved u w p end s low high ≡ Bound·At i) × (i < high) × (metAt w p end s i ≡ Met·Is Same)
+Ends u w p end s low high (Halved·Above i) = (halved u w p end s low high ≡ Bound·At i) × (i < high) × (metAt w p end s i ≡ Met·Is Above)
+Ends u w p end s low high (Halved·Unmet i) = halved u w p end s low high ≡ Bound·At i
+Ends u w p end s low high (Halved·Refused r) = halved u w p end s low high ≡ Bound·Refused r

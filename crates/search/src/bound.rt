@@ -3,51 +3,27 @@ ghost use mathlib.Core.Path.{_≡_};
 ghost use mathlib.Core.Bool.{true, false};
 ghost use Prim.Native.Nat.{_*_, _≤_};
 ghost use lib.ListN.{length};
+ghost use Rattle.paper.specs.Page.{headerOf};
 ghost use Rattle.paper.specs.Calls.{boundOf};
-ghost use Rattle.search.specs.Bounds.{windowOf, searched, boundWith, whyNoBound};
-use crate::halve;
+ghost use Rattle.search.specs.Bounds.{searched, boundWith, whyNoBound};
 use crate::probe;
-use hint::hints;
-use hint::window;
-use keys::head;
+use crate::seek;
 use node::admit;
-use node::admit::Admitted;
+use octets::number;
 use paper::answers::Bound;
-use paper::page::Header;
+use paper::answers::Found;
 use paper::refusal::Refusal;
 
-// The slots to search: low..high.
-pub struct Window {
-    pub low: usize,
-    pub high: usize,
-}
-
-// All slots, or those that the hints in use leave for a head.
-pub fn slots_to_search(p: &[u8], flag: u8, count: u16, head: u32) -> Window
-    requires { ⌜ 96 ≤ length (now p) ⌝ }
-    ensures { λ r. ⌜ r ≡ windowOf (now (p .entry)) flag count head ⌝ }
+// The bound of a probe's suffix on a page: 14.
+pub fn bound_at(p: &[u8], width: u8, suffix: &[u8], upper: bool) -> Bound
+    requires { ⌜ (16384 ≤ length (now p)) × (8 * headerOf (now p) .count ≤ 16256) ⌝ }
+    ensures { λ r. ⌜ r ≡ searched upper width (now (p .entry)) (headerOf (now (p .entry))) (now (suffix .entry)) ⌝ }
 {
-    if !hints::in_use(flag, count) {
-        return Window {
-            low: 0,
-            high: count as usize,
-        };
+    match seek::seek(p, width, suffix, upper, false) {
+        Found::Equal(i) => Bound::At(i),
+        Found::Smaller(i) => Bound::At(i),
+        Found::Refused(r) => Bound::Refused(r),
     }
-    let hs = hints::read_hints(p);
-    Window {
-        low: window::window_low(hs, head, count),
-        high: window::window_high(hs, head, count),
-    }
-}
-
-// The bound of a probe's suffix on a page with this header: 14.
-pub fn search_slots(p: &[u8], h: Header, width: u8, suffix: &[u8], upper: bool) -> Bound
-    requires { ⌜ (16384 ≤ length (now p)) × (8 * h .count ≤ 16256) ⌝ }
-    ensures { λ r. ⌜ r ≡ searched upper width (now (p .entry)) h (now (suffix .entry)) ⌝ }
-{
-    let head = head::head_int(suffix);
-    let v = slots_to_search(p, h.flag, h.count, head);
-    halve::halve(p, h.end, width, head, suffix, v.low, v.high, upper)
 }
 
 // The refusal of a bound that was not found.
@@ -60,30 +36,29 @@ pub fn why_no_bound(b: Bound) -> Refusal
     }
 }
 
-// The bound of a probe on a page with this header: 0 before the prefix, count after it.
-fn bound_with(p: &[u8], h: Header, width: u8, key: &[u8], upper: bool) -> Bound
-    requires { ⌜ (16384 ≤ length (now p)) × (8 * h .count ≤ 16256) × (h .«prefix_len» ≤ 16256) ⌝ }
-    ensures { λ r. ⌜ r ≡ boundWith upper width (now (p .entry)) h (now (key .entry)) ⌝ }
+// The bound of a probe on a page that may be read: 14.
+fn bound_with(p: &[u8], width: u8, key: &[u8], upper: bool) -> Bound
+    requires { ⌜ (16384 ≤ length (now p)) × (8 * headerOf (now p) .count ≤ 16256) × (headerOf (now p) .«prefix_len» ≤ 16256) ⌝ }
+    ensures { λ r. ⌜ r ≡ boundWith upper width (now (p .entry)) (headerOf (now (p .entry))) (now (key .entry)) ⌝ }
 {
-    let class = probe::class(p, h.prefix_len, key);
+    let class = probe::class(p, number::read_u16(p, 46), key);
     if class == 0 {
         return Bound::At(0);
     }
     if class == 2 {
-        return Bound::At(h.count as usize);
+        return Bound::At(number::read_u16(p, 2) as usize);
     }
-    search_slots(p, h, width, probe::suffix(p, key), upper)
+    bound_at(p, width, probe::suffix(p, key), upper)
 }
 
 // Both bounds.
 fn bound(p: &[u8], width: u8, key: &[u8], upper: bool) -> Bound
     ensures { λ r. ⌜ r ≡ boundOf upper width (now (p .entry)) (now (key .entry)) ⌝ }
 {
-    let a = admit::admit(p, width, key.len());
-    let Admitted::Is(h) = a else {
-        return Bound::Refused(admit::why_not(a));
-    };
-    bound_with(p, h, width, key, upper)
+    if !admit::admits(p, width, key.len()) {
+        return Bound::Refused(admit::why_refused(p, width, key.len()));
+    }
+    bound_with(p, width, key, upper)
 }
 
 // The number of keys below the probe, as halving finds it. Refuses 1, 2, 3, 4, 14.

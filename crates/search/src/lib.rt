@@ -5,4 +5,5 @@ pub mod fence;
 pub mod find;
 mod halve;
 pub mod probe;
+mod seek;
 mod slot;

@@ -1,6 +1,6 @@
 -- Each way out is one law: lacks the prefix, outside the fences, or what the search of a fit page finds. That the search is refused is absurd.
 use borrow.Author.Needs.{needs}
-use mathlib.Core.Path.{sym, _∙_}
+use mathlib.Core.Path.{refl, sym, _∙_}
 use native.Mathlib.Omega.{arith}
 use borrow.Author.Tests.{not-true, not-false}
 use Rattle.search.proofs.Asked.{prefix-fits, slots-fit, fences-fit}
@@ -28,8 +28,8 @@ returns-2 c =
     (child-outside _ _ _ (start .pre .2) _ (cut .before .before .class .ensures) (cut .before .if1 .left) _ (cut .suffix .ensures) _ (c .before .inside .ensures)
     (not-true (c .before .inside .result) (c .if2 .taken)))
 
-search-slots-requires : tie.Need-search-slots-requires
-search-slots-requires c κs = let pre = c .before .before .before .before .before .before .before .pre in (omega (arith, pre .0), slots-fit _ _ (pre .2) (header-rules _ (pre .0) (pre .1)))
+bound-at-requires : tie.Need-bound-at-requires
+bound-at-requires c κs = let pre = c .before .before .before .before .before .before .before .pre in (omega (arith, pre .0), slots-fit _ _ refl (header-rules _ (pre .0) (pre .1)))
 
 enum-known-b : tie.Need-enum-known-b
 enum-known-b c = search needs
@@ -48,7 +48,7 @@ returns-3 c =
     absurd
     (child-no-bound _ _ _ (pre .2) _ (held .class .ensures) (cut .before .if1 .left) _ (cut .suffix .ensures) _ (c .before .before .before .before .before .inside .ensures) (pre .0) (pre .1)
     (λ i. held .before .before .shared-slice-known .given i .fits) (λ i. held .before .shared-slice-known2 .given i .fits) _
-    (sym (c .before .before .before .search-slots .ensures) ∙ c .before .enum-told .given .1))
+    (sym (c .before .before .before .bound-at .ensures) ∙ c .before .enum-told .given .1))
 
 child-at-requires : tie.Need-child-at-requires
 child-at-requires c κs =
@@ -58,7 +58,7 @@ child-at-requires c κs =
     let few =
     child-few _ _ _ (pre .2) _ (held .class .ensures) (cut .before .if1 .left) _ (cut .suffix .ensures) _ (c .before .before .before .before .before .inside .ensures) (pre .0) (pre .1)
     (λ i. held .before .before .shared-slice-known .given i .fits) (λ i. held .before .shared-slice-known2 .given i .fits) _
-    (sym (c .before .before .before .search-slots .ensures) ∙ c .before .b .given .1) in
+    (sym (c .before .before .before .bound-at .ensures) ∙ c .before .b .given .1) in
     (pre .0, pre .1, few .0, few .1)
 
 returns-4 : tie.Need-returns-4
@@ -70,7 +70,7 @@ returns-4 c =
     ∙ sym
     (child-found _ _ _ (pre .2) _ (held .class .ensures) (cut .before .if1 .left) _ (cut .suffix .ensures) _ (c .before .before .before .before .before .before .inside .ensures) (pre .0) (pre .1)
     (λ i. held .before .before .shared-slice-known .given i .fits) (λ i. held .before .shared-slice-known2 .given i .fits) _
-    (not-false (c .before .before .before .before .before .before .inside .result) (c .before .before .before .before .before .if2 .left)) (sym (c .before .before .before .before .search-slots .ensures) ∙ c .before .before .b .given .1))
+    (not-false (c .before .before .before .before .before .before .inside .result) (c .before .before .before .before .before .if2 .left)) (sym (c .before .before .before .before .bound-at .ensures) ∙ c .before .before .b .given .1))
 
 pub child-with-spec : {M : Type 1} → statement M
 child-with-spec =
@@ -81,7 +81,7 @@ child-with-spec =
     suffix-requires
     inside-requires
     returns-2
-    search-slots-requires
+    bound-at-requires
     enum-known-b
     enum-told
     why-no-bound-requires

@@ -1,6 +1,6 @@
 -- Each way out is one law: the value is too large, the key lacks the prefix or lies outside the fences, or what the search of a fit page finds.
 use borrow.Author.Needs.{needs}
-use mathlib.Core.Path.{sym, _∙_}
+use mathlib.Core.Path.{refl, sym, _∙_}
 use native.Mathlib.Omega.{arith}
 use borrow.Author.Tests.{not-true, not-false}
 use Rattle.search.proofs.Asked.{prefix-fits, slots-fit, fences-fit}
@@ -49,10 +49,10 @@ returns-3 c =
 has-room-requires : tie.Need-has-room-requires
 has-room-requires c κs = let cut = c .before .before in room-asked _ _ _ _ (cut .before .before .before .before .before .before .before .pre) _ (cut .suffix .ensures)
 
-find-in-requires : tie.Need-find-in-requires
-find-in-requires c κs =
+find-at-requires : tie.Need-find-at-requires
+find-at-requires c κs =
     let T = c .before .before .before .before .before .before .before .before .before .before .pre in
-    (omega (arith, T .size), slots-fit _ _ (T .header) (tested-rules _ _ _ _ T))
+    (omega (arith, T .size), slots-fit _ _ refl (tested-rules _ _ _ _ T))
 
 place-by-requires : tie.Need-place-by-requires
 place-by-requires c κs = search needs
@@ -69,7 +69,7 @@ returns-4 c =
     ∙ sym
     (place-found _ _ _ _ _ (keyed .before .before .pre) _ (fits .ensures) (not-false (fits .result) (valued .if1 .left)) _ (cut .before .before .class .ensures)
     (cut .before .if2 .left) _ (cut .suffix .ensures) _ (inside .ensures) (not-false (inside .result) (seen .if3 .left)) _ (c .before .before .has-room .ensures)
-    (λ i. keyed .before .shared-slice-known .given i .fits) (λ i. keyed .shared-slice-known2 .given i .fits) _ (c .before .find-in .ensures))
+    (λ i. keyed .before .shared-slice-known .given i .fits) (λ i. keyed .shared-slice-known2 .given i .fits) _ (c .before .find-at .ensures))
 
 pub place-spec : {M : Type 1} → statement M
 place-spec =
@@ -83,6 +83,6 @@ place-spec =
     inside-requires
     returns-3
     has-room-requires
-    find-in-requires
+    find-at-requires
     place-by-requires
     returns-4)

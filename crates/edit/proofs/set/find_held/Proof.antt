@@ -1,6 +1,6 @@
 -- Each way out is one law: a value is too large, the key lacks the prefix or is not there, or its slot tested. That the search is refused is absurd.
 use borrow.Author.Needs.{needs}
-use mathlib.Core.Path.{sym, _∙_}
+use mathlib.Core.Path.{refl, sym, _∙_}
 use native.Mathlib.Omega.{arith}
 use borrow.Author.Tests.{not-true, not-false}
 use Rattle.search.proofs.Asked.{prefix-fits, slots-fit}
@@ -47,10 +47,10 @@ returns-3 c =
 suffix-requires : tie.Need-suffix-requires
 suffix-requires c κs = let T = c .before .before .before .before .before .before .before .before .pre in omega (arith, T .size)
 
-find-in-requires : tie.Need-find-in-requires
-find-in-requires c κs =
+find-at-requires : tie.Need-find-at-requires
+find-at-requires c κs =
     let T = c .before .before .before .before .before .before .before .before .before .pre in
-    (omega (arith, T .size), slots-fit _ _ (T .header) (tested-rules _ _ _ _ T))
+    (omega (arith, T .size), slots-fit _ _ refl (tested-rules _ _ _ _ T))
 
 enum-known-i : tie.Need-enum-known-i
 enum-known-i c = search needs
@@ -66,7 +66,7 @@ held-at-requires c κs =
     let new = newer .before .fits-width2 in
     (held-asked _ _ _ _ _ _ (keyed .before .before .pre) _ (old .ensures) (not-false (old .result) (older .if1 .left)) _ (new .ensures)
     (not-false (new .result) (newer .if2 .left)) _ (classed .before .class .ensures) (classed .if3 .left) _ (found .before .suffix .ensures)
-    (λ i. keyed .before .shared-slice-known .given i .fits) (λ i. keyed .shared-slice-known2 .given i .fits) _ (found .find-in .ensures) _ (c .before .i .given .1))
+    (λ i. keyed .before .shared-slice-known .given i .fits) (λ i. keyed .shared-slice-known2 .given i .fits) _ (found .find-at .ensures) _ (c .before .i .given .1))
 
 enum-told : tie.Need-enum-told
 enum-told c = search needs
@@ -87,7 +87,7 @@ returns-4 c =
     ∙ sym
     (held-found _ _ _ _ _ _ (keyed .before .before .pre) _ (old .ensures) (not-false (old .result) (older .if1 .left)) _ (new .ensures)
     (not-false (new .result) (newer .if2 .left)) _ (classed .before .class .ensures) (classed .if3 .left) _ (found .before .suffix .ensures)
-    (λ i. keyed .before .shared-slice-known .given i .fits) (λ i. keyed .shared-slice-known2 .given i .fits) _ (found .find-in .ensures) _ (c .before .before .i .given .1))
+    (λ i. keyed .before .shared-slice-known .given i .fits) (λ i. keyed .shared-slice-known2 .given i .fits) _ (found .find-at .ensures) _ (c .before .before .i .given .1))
 
 returns-5 : tie.Need-returns-5
 returns-5 c =
@@ -101,7 +101,7 @@ returns-5 c =
     sym
     (held-none _ _ _ _ _ _ (keyed .before .before .pre) _ (old .ensures) (not-false (old .result) (older .if1 .left)) _ (new .ensures)
     (not-false (new .result) (newer .if2 .left)) _ (classed .before .class .ensures) (classed .if3 .left) _ (found .before .suffix .ensures)
-    (λ i. keyed .before .shared-slice-known .given i .fits) (λ i. keyed .shared-slice-known2 .given i .fits) _ (found .find-in .ensures) _ (c .enum-told .given .1))
+    (λ i. keyed .before .shared-slice-known .given i .fits) (λ i. keyed .shared-slice-known2 .given i .fits) _ (found .find-at .ensures) _ (c .enum-told .given .1))
 
 returns-6 : tie.Need-returns-6
 returns-6 c =
@@ -115,7 +115,7 @@ returns-6 c =
     absurd
     (held-no-search _ _ _ _ _ _ (keyed .before .before .pre) _ (old .ensures) (not-false (old .result) (older .if1 .left)) _ (new .ensures)
     (not-false (new .result) (newer .if2 .left)) _ (classed .before .class .ensures) (classed .if3 .left) _ (found .before .suffix .ensures)
-    (λ i. keyed .before .shared-slice-known .given i .fits) (λ i. keyed .shared-slice-known2 .given i .fits) _ (found .find-in .ensures) _ (c .before .r .given .1))
+    (λ i. keyed .before .shared-slice-known .given i .fits) (λ i. keyed .shared-slice-known2 .given i .fits) _ (found .find-at .ensures) _ (c .before .r .given .1))
 
 pub find-held-spec : {M : Type 1} → statement M
 find-held-spec =
@@ -128,7 +128,7 @@ find-held-spec =
     class-requires
     returns-3
     suffix-requires
-    find-in-requires
+    find-at-requires
     enum-known-i
     held-at-requires
     enum-told

@@ -1,47 +1,32 @@
--- A page that is admitted has the numbers that `bound_with` asks for; one that is not gives the refusal.
-use borrow.Author.Needs.{needs}
+-- A page that may be read has the numbers that `bound_with` asks for; one that may not gives the refusal.
 use mathlib.Core.Path.{sym, _∙_}
-use Rattle.node.specs.Admit.{whyNot}
-use Rattle.node.proofs.Admits.{slots-within, prefix-lies}
+use borrow.Author.Tests.{not-true, not-false}
+use Rattle.node.proofs.Admits.{admits-is, admits-not}
+use Rattle.search.proofs.Asked.{asked}
 use Rattle.search.proofs.Bounded.{bound-refused, bound-admitted}
+use borrow.Author.Needs.{needs}
 use Rattle.search.proofs.bound.bound.Statement.{statement}
 use Rattle.search.proofs.bound.bound.Tie as tie
 
-admit-requires : tie.Need-admit-requires
-admit-requires c κs = search needs
+admits-requires : tie.Need-admits-requires
+admits-requires c κs = search needs
 
-enum-known-a : tie.Need-enum-known-a
-enum-known-a c = search needs
-
-enum-told : tie.Need-enum-told
-enum-told c = search needs
-
-why-not-requires : tie.Need-why-not-requires
-why-not-requires c κs = search needs
+why-refused-requires : tie.Need-why-refused-requires
+why-refused-requires c κs = search needs
 
 returns : tie.Need-returns
-unfolding whyNot
 returns c =
-    let told = c .before .enum-told .given .1 in
-    rw (c .why-not .ensures, told) (sym (bound-refused _ _ _ _ _ (sym (c .before .before .before .admit .ensures) ∙ told)))
+    let test = c .before .before in
+    rw (c .why-refused .ensures) (sym (bound-refused _ _ _ _ _ (admits-not _ _ _ (sym (test .admits .ensures) ∙ not-true (test .admits .result) (c .before .if1 .taken)))))
 
 bound-with-requires : tie.Need-bound-with-requires
-bound-with-requires c κs =
-    let e = sym (c .before .before .before .admit .ensures) ∙ c .before .a .given .1 in
-    let n = slots-within _ _ _ _ e in
-    (n .0, n .1, prefix-lies _ _ _ _ e)
+bound-with-requires c κs = let test = c .before in asked _ _ _ (sym (test .admits .ensures) ∙ not-false (test .admits .result) (c .if1 .left))
 
 returns-2 : tie.Need-returns-2
-returns-2 c = c .bound-with .ensures ∙ sym (bound-admitted _ _ _ _ _ (sym (c .before .before .before .before .admit .ensures) ∙ c .before .before .a .given .1))
+returns-2 c =
+    let test = c .before .before in
+    c .bound-with .ensures ∙ sym (bound-admitted _ _ _ _ _ (admits-is _ _ _ (sym (test .admits .ensures) ∙ not-false (test .admits .result) (c .before .if1 .left))))
 
 pub bound-spec : {M : Type 1} → statement M
 bound-spec =
-    tie.close
-    (tie.spec
-    admit-requires
-    enum-known-a
-    enum-told
-    why-not-requires
-    returns
-    bound-with-requires
-    returns-2)
+    tie.close (tie.spec admits-requires why-refused-requires returns bound-with-requires returns-2)

@@ -3,8 +3,8 @@ use borrow.Author.Needs.{needs}
 use mathlib.Core.Path.{sym, _∙_}
 use borrow.Author.Tests.{not-true, not-false}
 use Rattle.search.proofs.Bounded.{window-all, window-used}
-use Rattle.search.proofs.bound.slots_to_search.Statement.{statement}
-use Rattle.search.proofs.bound.slots_to_search.Tie as tie
+use Rattle.search.proofs.seek.slots_to_search.Statement.{statement}
+use Rattle.search.proofs.seek.slots_to_search.Tie as tie
 
 in-use-requires : tie.Need-in-use-requires
 in-use-requires c κs = search needs

@@ -2,8 +2,8 @@
 use borrow.Author.Needs.{needs}
 use Rattle.paper.specs.Searches.{tested}
 use Rattle.search.specs.Slot.{whyNotMet}
-use Rattle.search.proofs.find.test_slot.Statement.{statement}
-use Rattle.search.proofs.find.test_slot.Tie as tie
+use Rattle.search.proofs.seek.test_slot.Statement.{statement}
+use Rattle.search.proofs.seek.test_slot.Tie as tie
 
 meet-alone-requires : tie.Need-meet-alone-requires
 meet-alone-requires c κs = search needs
