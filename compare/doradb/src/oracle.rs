@@ -30,11 +30,16 @@ impl Page {
         &self.0
     }
 
+    /// The page's bytes, to be written.
+    pub fn bytes_mut(&mut self) -> &mut [u8] {
+        &mut self.0
+    }
+
     pub(crate) fn node(&self) -> &BTreeNode {
         layout::ref_from_bytes(&self.0)
     }
 
-    fn node_mut(&mut self) -> &mut BTreeNode {
+    pub(crate) fn node_mut(&mut self) -> &mut BTreeNode {
         layout::mut_from_bytes(&mut self.0)
     }
 }

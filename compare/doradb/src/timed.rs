@@ -1,8 +1,9 @@
 //! Calls of doradb to be timed, at width 8, each behind one call as a library
-//! has it: the call alone, and after `validate_persisted_header`, which every
-//! read of document 01 includes.
+//! has it: reads alone, and after `validate_persisted_header`, which every
+//! read of document 01 includes; edits alone, with the `update_hints` that
+//! document 01 asks for.
 
-use crate::index::btree::{BTreeU64, PackedNodeSpace};
+use crate::index::btree::{BTreeU64, BTreeUpdate, LookupChild, PackedNodeSpace};
 use crate::oracle::Page;
 
 macro_rules! reads {
@@ -107,4 +108,63 @@ pub fn forecast(lower: &[u8], upper: &[u8]) -> Option<(usize, usize)> {
 #[inline(never)]
 pub fn layout(page: &Page) -> bool {
     page.node().validate_persisted_layout::<BTreeU64>()
+}
+
+/// Child: `lookup_child`, on a page whose lower fence has a child. The slot, or
+/// the highest number for the lower fence's own child, and the value.
+#[inline(never)]
+pub fn child(page: &Page, key: &[u8]) -> Option<(u64, u64)> {
+    match page.node().lookup_child(key) {
+        LookupChild::Slot(slot, id) => Some((slot as u64, id.as_u64())),
+        LookupChild::LowerFence(id) => Some((u64::MAX, id.as_u64())),
+        LookupChild::NotFound => None,
+    }
+}
+
+/// Begin at height 0, timestamp 7 and lower fence value 0: `init`.
+#[inline(never)]
+pub fn begin(page: &mut Page, lower: &[u8], upper: &[u8], hints: bool) {
+    let node = page.node_mut();
+    node.init(0, 7.into(), lower, BTreeU64::from(0), upper, hints);
+}
+
+/// Insert: `insert`, then `update_hints`. Gives the slot number.
+#[inline(never)]
+pub fn insert(page: &mut Page, key: &[u8], value: u64) -> usize {
+    let node = page.node_mut();
+    let slot = node.insert(key, BTreeU64::from(value));
+    node.update_hints();
+    slot
+}
+
+/// `insert` without the `update_hints` that document 01 asks for.
+#[inline(never)]
+pub fn insert_alone(page: &mut Page, key: &[u8], value: u64) -> usize {
+    page.node_mut().insert(key, BTreeU64::from(value))
+}
+
+/// Set value: `update`; the old value where it was the expected one.
+#[inline(never)]
+pub fn set_value(page: &mut Page, key: &[u8], expected: u64, new: u64) -> Option<u64> {
+    let (expected, new) = (BTreeU64::from(expected), BTreeU64::from(new));
+    match page.node_mut().update(key, expected, new) {
+        BTreeUpdate::Ok(old) => Some(old.to_u64()),
+        _ => None,
+    }
+}
+
+/// Change key: `update_key`, then `update_hints`.
+#[inline(never)]
+pub fn change_key(page: &mut Page, slot: usize, key: &[u8]) {
+    let node = page.node_mut();
+    node.update_key::<BTreeU64>(slot, key);
+    node.update_hints();
+}
+
+/// Run copy: `extend_slots_from`, then `update_hints`.
+#[inline(never)]
+pub fn run_copy(destination: &mut Page, source: &Page, first: usize, n: usize) {
+    let node = destination.node_mut();
+    node.extend_slots_from::<BTreeU64>(source.node(), first, n);
+    node.update_hints();
 }

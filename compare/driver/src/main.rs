@@ -24,6 +24,7 @@ mod samples;
 mod script;
 mod sequences;
 mod shrink;
+mod speed;
 mod tables;
 mod talk;
 
@@ -39,6 +40,7 @@ fn main() -> ExitCode {
             "record" => record::record(&options),
             "departures" => departures::departures(&options),
             "samples" => samples::samples(&options),
+            "bench" => speed::bench(&options),
             _ => Err(USAGE.into()),
         }
     });

@@ -6,7 +6,7 @@ use std::path::Path;
 
 /// What the command line says.
 pub struct Options {
-    /// `run`, `sequences`, `departures`, `record` or `samples`.
+    /// `run`, `sequences`, `departures`, `record`, `samples` or `bench`.
     pub command: String,
     /// The seeds of a run, one after the other.
     pub seeds: Vec<u64>,
@@ -30,8 +30,12 @@ pub struct Options {
     pub out_stdin: Option<String>,
     /// The file for recorded answers.
     pub out_stdout: Option<String>,
-    /// The folder for sample pages.
+    /// The folder for sample pages, or for the figures of a bench.
     pub out: Option<String>,
+    /// The one call of a bench.
+    pub call: Option<String>,
+    /// Whether a bench has fewer pages and takes less time for each.
+    pub quick: bool,
     /// The most bytes of a recording.
     pub limit: usize,
 }
@@ -43,6 +47,7 @@ compare sequences [--seed S[,S...]] [--count N] [--ask CMD|none] [--tell N] [--s
 compare departures [--ask CMD|none]
 compare record --out-stdin FILE --out-stdout FILE [--seed S] [--limit BYTES] [--calls C[,C...]]
 compare samples [--out FOLDER] [--out-stdin FILE --out-stdout FILE]
+compare bench [--call NAME] [--quick] [--out FOLDER]
 
 Without --ask, `run ask` at the project's root is asked, if that program is there.";
 
@@ -63,17 +68,21 @@ impl Options {
             out_stdin: None,
             out_stdout: None,
             out: None,
+            call: None,
+            quick: false,
             limit: 3_000_000,
         };
         while let Some(name) = arguments.next() {
-            if name == "--shows" {
-                options.shows = true;
-                continue;
+            match name.as_str() {
+                "--shows" => options.shows = true,
+                "--quick" => options.quick = true,
+                _ => {
+                    let value = arguments
+                        .next()
+                        .ok_or(format!("{name} wants a value\n\n{USAGE}"))?;
+                    options.set(&name, value)?;
+                }
             }
-            let value = arguments
-                .next()
-                .ok_or(format!("{name} wants a value\n\n{USAGE}"))?;
-            options.set(&name, value)?;
         }
         if options.calls.iter().all(|&call| by_number(call).is_none()) {
             return Err(format!("--calls names no call that has cases\n\n{USAGE}"));
@@ -95,6 +104,7 @@ impl Options {
             "--out-stdin" => self.out_stdin = Some(value),
             "--out-stdout" => self.out_stdout = Some(value),
             "--out" => self.out = Some(value),
+            "--call" => self.call = Some(value),
             "--limit" => self.limit = number(&value)?,
             _ => return Err(format!("{name} is no option\n\n{USAGE}")),
         }

@@ -100,6 +100,19 @@ fn a_run_of_no_case_is_an_error() {
 }
 
 #[test]
+fn a_bench_without_an_archive_is_an_error() {
+    let output = Command::new(env!("CARGO_BIN_EXE_compare"))
+        .args(["bench", "--quick"])
+        .env("DORGUMANNA_ARCHIVE", "there/is/none.a")
+        .output()
+        .unwrap();
+    assert_eq!(output.status.code(), Some(2));
+    assert_eq!(text(&output), "");
+    let errors = String::from_utf8_lossy(&output.stderr);
+    assert!(errors.contains("there/is/none.a: ./archive at the project's root"));
+}
+
+#[test]
 fn unknown_words_get_the_usage() {
     for arguments in [
         &["walk"][..],

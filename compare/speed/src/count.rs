@@ -1,22 +1,24 @@
 //! Instructions a call, counted by callgrind: this program is run again under it, and asks it for a dump after each
 //! side of each call on each page.
 
+use crate::measure::{cells, Costs};
 use crate::pages::Case;
-use crate::rows::Side;
-use crate::{cells, tables, Table};
+use crate::rows::{Cells, Side, PROBES, SIDES};
+use crate::Want;
 use std::fs;
 use std::hint::black_box;
 use std::path::Path;
 use std::process::{Command, Stdio};
 
-/// Probes of a case: fewer than for times, since the counts do not waver.
-const PROBES: usize = 256;
+/// Of the probes for times a quarter is asked, since counts do not waver.
+const SHARE: usize = 4;
 
-/// Asks all probes of a case once, and again between two requests to callgrind: forget what was counted, and dump it.
+/// Asks one probe of a case, and then all between two requests to callgrind: forget what was counted, and dump it.
 fn dumped(side: &Side, case: &Case) {
-    black_box(side(black_box(case)));
+    let probes = side.probes(case, SHARE);
+    black_box((side.ask)(black_box(case), black_box(&probes[..1])));
     request(ZERO_STATS);
-    black_box(side(black_box(case)));
+    black_box((side.ask)(black_box(case), black_box(probes)));
     request(DUMP_STATS);
 }
 
@@ -55,61 +57,67 @@ fn request(number: u64) {
 /// The word by which this program is told that it runs under callgrind.
 pub const COUNTED: &str = "counted";
 
-/// Every side of every cell, what is around the calls before them.
-pub fn counted(call: &str) -> Result<(), String> {
-    for (row, cases) in cells(call, PROBES) {
+/// Every side of every cell.
+pub fn counted(want: &Want) -> Result<(), String> {
+    for Cells { row, cases } in cells(want, PROBES / SHARE)? {
         for case in &cases {
-            dumped(&row.around, case);
-            let sides = row.sides().into_iter().flatten();
+            let sides = row.sides(case).into_iter().flatten();
             sides.for_each(|side| dumped(side, case));
         }
     }
     Ok(())
 }
 
-/// Instructions a call: runs this program under callgrind and reads its dumps.
-pub fn counts(call: &str) -> Result<Vec<Table>, String> {
+/// Instructions of every side of every cell: runs this program under callgrind and reads its dumps.
+pub fn counts(cells: &[Cells], want: &Want) -> Result<Vec<Vec<Costs>>, String> {
     let folder = std::env::temp_dir().join(format!("speed-{}", std::process::id()));
+    eprintln!("counting instructions");
     fs::create_dir_all(&folder).map_err(|error| format!("{}: {error}", folder.display()))?;
-    let counts = run(call, &folder).and_then(|()| read(call, &folder));
+    let counts = run(want, &folder).and_then(|()| read(cells, &folder));
     fs::remove_dir_all(&folder).map_err(|error| format!("{}: {error}", folder.display()))?;
     counts
 }
 
-fn run(call: &str, folder: &Path) -> Result<(), String> {
+fn run(want: &Want, folder: &Path) -> Result<(), String> {
     let own = std::env::current_exe().map_err(|error| error.to_string())?;
     let out = folder.join("out");
     let status = Command::new("valgrind")
         .arg("--tool=callgrind")
         .arg(format!("--callgrind-out-file={}", out.display()))
         .arg(own)
-        .args([COUNTED, call])
+        .arg(COUNTED)
+        .args(want.words())
         .stderr(Stdio::null())
         .status()
-        .map_err(|error| format!("valgrind: {error}"))?;
+        .map_err(|error| format!("valgrind, which counts instructions: {error}"))?;
     match status.success() {
         true => Ok(()),
         false => Err(format!("valgrind: {status}")),
     }
 }
 
-fn read(call: &str, folder: &Path) -> Result<Vec<Table>, String> {
+fn read(cells: &[Cells], folder: &Path) -> Result<Vec<Vec<Costs>>, String> {
     let mut dump = 0;
-    let mut next = |case: &Case| {
+    let mut next = |probes: usize| {
         dump += 1;
         let dumped = instructions(&folder.join(format!("out.{dump}")))?;
-        Ok::<f64, String>(dumped as f64 / case.probes.len() as f64)
+        Ok::<f64, String>(dumped as f64 / probes as f64)
     };
-    tables(call, PROBES, |row, case| {
-        let around = next(case)?;
-        let mut figures = [None; 3];
-        for (side, figure) in row.sides().into_iter().zip(&mut figures) {
-            if side.is_some() {
-                *figure = Some(next(case)? - around);
+    let mut counts = Vec::new();
+    for Cells { row, cases } in cells {
+        let mut lines = Vec::new();
+        for case in cases {
+            let mut costs: Costs = [None; SIDES];
+            for (side, cost) in row.sides(case).into_iter().zip(&mut costs) {
+                if let Some(side) = side {
+                    *cost = Some(next(side.probes(case, SHARE).len())?);
+                }
             }
+            lines.push(costs);
         }
-        Ok(figures)
-    })
+        counts.push(lines);
+    }
+    Ok(counts)
 }
 
 /// The instructions of a dump.

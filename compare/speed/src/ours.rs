@@ -100,6 +100,35 @@ mod c {
             key: *const u8,
             k: usize,
         ) -> Answer;
+        pub fn dorgumanna_child(p: *const u8, n: usize, key: *const u8, k: usize) -> Answer;
+        pub fn dorgumanna_begin(
+            p: *mut u8,
+            n: usize,
+            height: u16,
+            timestamp: u64,
+            lower: *const u8,
+            l: usize,
+            lower_value: u64,
+            upper: *const u8,
+            u: usize,
+            hints: bool,
+        ) -> Answer;
+        pub fn dorgumanna_copy_run(
+            p: *mut u8,
+            n: usize,
+            source: *const u8,
+            m: usize,
+            width: u8,
+            first: usize,
+            run: usize,
+        ) -> Answer;
+        pub fn dorgumanna_file_batch(
+            p: *mut u8,
+            n: usize,
+            width: u8,
+            records: *const u8,
+            m: usize,
+        ) -> Answer;
     }
 }
 
@@ -191,4 +220,29 @@ pub fn set_value(page: &mut [u8], key: &[u8], expected: u64, new: u64) -> Answer
 pub fn change_key(page: &mut [u8], slot: usize, key: &[u8]) -> Answer {
     let (p, n) = (page.as_mut_ptr(), page.len());
     unsafe { c::dorgumanna_change_key(p, n, 8, slot, key.as_ptr(), key.len()) }
+}
+
+#[inline(always)]
+pub fn child(page: &[u8], key: &[u8]) -> Answer {
+    unsafe { c::dorgumanna_child(page.as_ptr(), page.len(), key.as_ptr(), key.len()) }
+}
+
+/// At height 0, timestamp 7 and lower fence value 0.
+#[inline(always)]
+pub fn begin(page: &mut [u8], lower: &[u8], upper: &[u8], hints: bool) -> Answer {
+    let (p, n) = (page.as_mut_ptr(), page.len());
+    let (l, u) = (lower.as_ptr(), upper.as_ptr());
+    unsafe { c::dorgumanna_begin(p, n, 0, 7, l, lower.len(), 0, u, upper.len(), hints) }
+}
+
+#[inline(always)]
+pub fn copy_run(page: &mut [u8], source: &[u8], first: usize, n: usize) -> Answer {
+    let (p, m) = (page.as_mut_ptr(), page.len());
+    unsafe { c::dorgumanna_copy_run(p, m, source.as_ptr(), source.len(), 8, first, n) }
+}
+
+#[inline(always)]
+pub fn file_batch(page: &mut [u8], records: &[u8]) -> Answer {
+    let (p, n) = (page.as_mut_ptr(), page.len());
+    unsafe { c::dorgumanna_file_batch(p, n, 8, records.as_ptr(), records.len()) }
 }
