@@ -11,14 +11,15 @@ fn main() {
         None => package.join("../../target/native/libdorgumanna.a"),
     };
     println!("cargo::rerun-if-changed={}", archive.display());
-    let folder = archive.parent().filter(|_| archive.is_file());
-    let Some(folder) = folder.filter(|_| archive.ends_with("libdorgumanna.a")) else {
+    let found = archive.canonicalize().ok();
+    let Some(found) = found.filter(|found| found.ends_with("libdorgumanna.a")) else {
         println!(
             "cargo::error=there is no archive {}: run ./archive at the project's root, or name a libdorgumanna.a in DORGUMANNA_ARCHIVE",
             archive.display()
         );
         return;
     };
+    let folder = found.parent().expect("a file is in a folder");
     println!("cargo::rustc-link-search=native={}", folder.display());
     println!("cargo::rustc-link-lib=static=dorgumanna");
 }

@@ -3,6 +3,7 @@
 use crate::c;
 use crate::refusal::{done, BatchRefusal, Refusal};
 use std::cmp::Ordering;
+use std::fmt;
 
 /// The bytes of a page.
 pub const PAGE_BYTES: usize = 16_384;
@@ -21,7 +22,14 @@ pub enum Width {
 impl TryFrom<u8> for Width {
     type Error = Refusal;
 
-    /// The width of 0, 1 or 8 bytes; others are refused by [`Refusal::Width`].
+    /// The width of 0, 1 or 8 bytes. Refuses 2.
+    ///
+    /// ```
+    /// use dorgumanna::{Refusal, Width};
+    ///
+    /// assert_eq!(Width::try_from(8), Ok(Width::Word));
+    /// assert_eq!(Width::try_from(2), Err(Refusal::Width));
+    /// ```
     fn try_from(width: u8) -> Result<Width, Refusal> {
         match width {
             0 => Ok(Width::None),
@@ -121,7 +129,16 @@ pub fn forecast(lower: &[u8], upper: &[u8]) -> Result<Forecast, Refusal> {
     })
 }
 
-/// Puts a record behind those of a batch. Refuses 3, and leaves the records as they were.
+/// Puts a record behind those of a batch. Refuses 3, and then leaves the records as they were.
+///
+/// ```
+/// use dorgumanna::{push_record, Refusal};
+///
+/// let mut records = Vec::new();
+/// assert_eq!(push_record(&mut records, b"ab", 3), Ok(()));
+/// assert_eq!(push_record(&mut records, &[0; 65_536], 4), Err(Refusal::KeyLength));
+/// assert_eq!(records, b"\x02\0\0\0ab\x03\0\0\0\0\0\0\0");
+/// ```
 pub fn push_record(records: &mut Vec<u8>, key: &[u8], value: u64) -> Result<(), Refusal> {
     let length = u16::try_from(key.len()).map_err(|_| Refusal::KeyLength)?;
     records.extend(u32::from(length).to_le_bytes());
@@ -131,7 +148,7 @@ pub fn push_record(records: &mut Vec<u8>, key: &[u8], value: u64) -> Result<(), 
 }
 
 /// A page lent for reading, and the width of its values.
-#[derive(Clone, Copy, Debug)]
+#[derive(Clone, Copy)]
 pub struct PageRef<'a> {
     bytes: &'a [u8; PAGE_BYTES],
     width: Width,
@@ -144,6 +161,13 @@ impl<'a> PageRef<'a> {
     }
 
     /// These bytes as a page. Refuses 1.
+    ///
+    /// ```
+    /// use dorgumanna::{PageRef, Refusal, Width};
+    ///
+    /// let page = PageRef::from_slice(&[0; 16_383], Width::Word);
+    /// assert_eq!(page.err(), Some(Refusal::PageLength));
+    /// ```
     pub fn from_slice(bytes: &'a [u8], width: Width) -> Result<PageRef<'a>, Refusal> {
         let bytes = bytes.try_into().map_err(|_| Refusal::PageLength)?;
         Ok(PageRef::new(bytes, width))
@@ -253,7 +277,6 @@ impl<'a> PageRef<'a> {
 
 /// A page lent for editing, and the width of its values. After an edit that is done the page is fit; one that is refused
 /// leaves every byte as it was.
-#[derive(Debug)]
 pub struct Page<'a> {
     bytes: &'a mut [u8; PAGE_BYTES],
     width: Width,
@@ -354,5 +377,23 @@ impl<'a> Page<'a> {
     /// ```
     pub fn file_batch(&mut self, records: &[u8]) -> Result<usize, BatchRefusal> {
         c::file_batch(self.bytes, self.width as u8, records).batch()
+    }
+}
+
+/// The width alone: the bytes are many.
+impl fmt::Debug for PageRef<'_> {
+    fn fmt(&self, f: &mut fmt::Formatter<'_>) -> fmt::Result {
+        f.debug_struct("PageRef")
+            .field("width", &self.width)
+            .finish_non_exhaustive()
+    }
+}
+
+/// The width alone: the bytes are many.
+impl fmt::Debug for Page<'_> {
+    fn fmt(&self, f: &mut fmt::Formatter<'_>) -> fmt::Result {
+        f.debug_struct("Page")
+            .field("width", &self.width)
+            .finish_non_exhaustive()
     }
 }

@@ -7,7 +7,7 @@ mod common;
 
 use common::*;
 use plain::ask::Server;
-use plain::protocol::Request;
+use plain::protocol::{Request, MOST};
 use plain::PAGE;
 
 /// Fences: none; with a short prefix in common; with one above 16 bytes.
@@ -85,35 +85,36 @@ impl Scene {
         requests
     }
 
-    /// Damage to the filled pages, in three scenes of four: other bytes in the header, in offsets, anywhere.
+    /// Damage to the filled pages, in three scenes of four.
     pub fn damage(&mut self, server: &Server) -> Vec<Request> {
-        if self.dice.below(4) == 0 {
-            return Vec::new();
-        }
-        (0..2_u8)
-            .map(|page| {
-                let mut bytes = server.registers[usize::from(page)].clone();
-                for _ in 0..self.dice.below(3) {
-                    let at = match self.dice.below(5) {
-                        0 => self.dice.below(96),
-                        1 => 40 + self.dice.below(8),
-                        2 => 64 + self.dice.below(32),
-                        3 => slot_at(self.dice.below(count(&bytes).clamp(1, 1_016) as usize)) + 3,
-                        _ => self.dice.below(PAGE),
-                    };
-                    bytes[at] = match self.dice.below(3) {
-                        0 => self.dice.below(256) as u8,
-                        1 => bytes[at].wrapping_add(1),
-                        _ => bytes[at].wrapping_sub(1),
-                    };
-                }
-                Request {
-                    page,
-                    first: bytes,
-                    ..Request::default()
-                }
+        let pages = if self.dice.below(4) == 0 { 0..0 } else { 0..2 };
+        pages
+            .map(|page: u8| Request {
+                page,
+                first: self.damaged(&server.registers[usize::from(page)]),
+                ..Request::default()
             })
             .collect()
+    }
+
+    /// A page with up to two other bytes, in the header, in offsets of slots or anywhere.
+    fn damaged(&mut self, page: &[u8]) -> Vec<u8> {
+        let mut bytes = page.to_vec();
+        for _ in 0..self.dice.below(3) {
+            let at = match self.dice.below(5) {
+                0 => self.dice.below(96),
+                1 => EFFECTIVE + self.dice.below(8),
+                2 => HINTS + self.dice.below(32),
+                3 => slot_at(self.dice.below(count(&bytes).clamp(1, 1_016) as usize)) + 3,
+                _ => self.dice.below(PAGE),
+            };
+            bytes[at] = match self.dice.below(3) {
+                0 => self.dice.below(256) as u8,
+                1 => bytes[at].wrapping_add(1),
+                _ => bytes[at].wrapping_sub(1),
+            };
+        }
+        bytes
     }
 
     /// A call on one of the pages.
@@ -258,13 +259,9 @@ impl Scene {
     /// Any key: none at all, too long a one, one that takes the page alone.
     fn outer_key(&mut self) -> Vec<u8> {
         let length = [0, 1, 3, 17, 40, 9_000, 16_300, 65_535, 65_536][self.dice.below(9)];
-        let byte = BYTES[self.dice.below(BYTES.len())];
-        [
-            &self.lower[..self.lower.len().min(length)],
-            &vec![byte; length],
-        ]
-        .concat()[..length]
-            .to_vec()
+        let mut key = self.lower.to_vec();
+        key.resize(length, BYTES[self.dice.below(BYTES.len())]);
+        key
     }
 
     /// A value, mostly one that the width can hold.
@@ -276,7 +273,7 @@ impl Scene {
         }
     }
 
-    /// The records of a batch, now and then cut short.
+    /// The records of a batch, now and then cut short, and no longer than a request may be.
     fn records(&mut self) -> Vec<u8> {
         let mut records = Vec::new();
         for _ in 0..self.dice.below(4) {
@@ -292,7 +289,7 @@ impl Scene {
         if self.dice.below(10) == 0 {
             records.pop();
         }
-        records.truncate(81_999);
+        records.truncate(MOST);
         records
     }
 }

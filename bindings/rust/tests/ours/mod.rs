@@ -2,6 +2,7 @@
 
 use dorgumanna::{
     forecast, need, BatchRefusal, Beginning, Found, Page, PageRef, Refusal, Space, Width,
+    PAGE_BYTES,
 };
 use plain::protocol::{Reply, Request};
 
@@ -20,114 +21,119 @@ impl Ours {
                 Reply::default()
             }
             1 => bytes(self.registers[usize::from(request.page)].clone()),
-            16 => reply(needed(request), number),
-            17 => {
-                let forecast = forecast(&request.first, &request.second);
-                reply(forecast, |f| pair(f.prefix_len as u64, f.effective))
+            2..=6 => reply(self.edit(request).map(number)),
+            13 => {
+                let mut buffer = request.second.clone();
+                let copied = self
+                    .page(request)
+                    .and_then(|page| page.copy_key(request.a as usize, &mut buffer));
+                Reply {
+                    bytes: buffer,
+                    ..reply(copied.map(|length| number(length as u64)))
+                }
             }
             20 => return self.batch(request),
-            2..=6 => reply(self.edit(request), number),
-            _ => self
-                .read(request)
-                .unwrap_or_else(|refusal| refused(refusal, refused_bytes(request))),
+            _ => reply(self.read(request)),
         })
     }
 
-    /// Find to trailing id, space numbers and verdicts.
-    fn read(&self, request: &Request) -> Result<Reply, Refusal> {
+    /// The page of a request, with its width.
+    fn page(&self, request: &Request) -> Result<PageRef<'_>, Refusal> {
         let register = &self.registers[usize::from(request.page)];
         let page = PageRef::from_slice(register, Width::Word)?;
-        match request.call {
-            11 => {
-                let child = page.child(&request.first)?;
-                let slot = child.slot.map_or(u64::MAX, |slot| slot as u64);
-                return Ok(pair(slot, child.value));
-            }
-            15 => return Ok(bytes(numbers(page.space()?))),
-            _ => {}
-        }
-        let page = PageRef::new(page.bytes(), Width::try_from(request.width)?);
+        Ok(PageRef::new(page.bytes(), Width::try_from(request.width)?))
+    }
+
+    /// The page of a request, with its width, for an edit.
+    fn page_mut(&mut self, request: &Request) -> Result<Page<'_>, Refusal> {
+        let width = self.page(request)?.width();
+        Page::from_slice(&mut self.registers[usize::from(request.page)], width)
+    }
+
+    /// The calls that write nowhere.
+    fn read(&self, request: &Request) -> Result<Reply, Refusal> {
         let (slot, key) = (request.a as usize, &request.first);
+        let register = &self.registers[usize::from(request.page)];
         Ok(match request.call {
-            7 => match page.find(key)? {
+            7 => match self.page(request)?.find(key)? {
                 Found::Equal(slot) => pair(slot as u64, 1),
                 Found::Smaller(keys) => pair(keys as u64, 0),
             },
-            8 => number(page.lower_bound(key)? as u64),
-            9 => number(page.upper_bound(key)? as u64),
-            10 => number(page.compare(slot, key)? as i64 as u64),
-            12 => Reply {
-                a: page.entry(slot)?,
-                ..bytes(whole_key(page, slot)?)
-            },
-            13 => {
-                let mut buffer = request.second.clone();
-                let length = page.copy_key(slot, &mut buffer);
-                return Ok(match length {
-                    Ok(length) => Reply {
-                        a: length as u64,
-                        ..bytes(buffer)
-                    },
-                    Err(refusal) => refused(refusal, buffer),
-                });
+            8 => number(self.page(request)?.lower_bound(key)? as u64),
+            9 => number(self.page(request)?.upper_bound(key)? as u64),
+            10 => number(self.page(request)?.compare(slot, key)? as i64 as u64),
+            11 => {
+                let child = PageRef::from_slice(register, Width::Word)?.child(key)?;
+                let slot = child.slot.map_or(u64::MAX, |slot| slot as u64);
+                pair(slot, child.value)
             }
-            14 => number(page.trailing_id(slot)?),
-            18 => number(u64::from(page.layout()?)),
-            19 => number(u64::from(page.fit()?)),
+            12 => {
+                let page = self.page(request)?;
+                let a = page.entry(slot)?;
+                let mut key = vec![0; 2 * PAGE_BYTES];
+                let length = page.copy_key(slot, &mut key)?;
+                key.truncate(length);
+                Reply { a, ..bytes(key) }
+            }
+            14 => number(self.page(request)?.trailing_id(slot)?),
+            15 => bytes(numbers(
+                PageRef::from_slice(register, Width::Word)?.space()?,
+            )),
+            16 => number(need(Width::try_from(request.width)?, slot, key)?),
+            17 => {
+                let forecast = forecast(key, &request.second)?;
+                pair(forecast.prefix_len as u64, forecast.effective)
+            }
+            18 => number(u64::from(self.page(request)?.layout()?)),
+            19 => number(u64::from(self.page(request)?.fit()?)),
             call => unreachable!("call {call}"),
         })
     }
 
     /// Begin, insert, set value, change key, run copy; 0 for those that answer nothing.
     fn edit(&mut self, request: &Request) -> Result<u64, Refusal> {
-        let source = self.registers[usize::from(request.other)].clone();
-        let register = &mut self.registers[usize::from(request.page)];
         let (a, b, key) = (request.a, request.b, request.first.as_slice());
-        if request.call == 2 {
-            let with = Beginning {
-                height: a as u16,
-                timestamp: b,
-                lower: key,
-                lower_value: request.c,
-                upper: &request.second,
-                hints: request.width == 1,
-            };
-            return Page::from_slice(register, Width::Word)?
-                .begin(&with)
-                .map(|()| 0);
-        }
-        PageRef::from_slice(register, Width::Word)?;
-        if request.call == 6 {
-            PageRef::from_slice(&source, Width::Word)?;
-        }
-        let mut page = Page::from_slice(register, Width::try_from(request.width)?)?;
         match request.call {
-            3 => page.insert(key, a).map(|slot| slot as u64),
-            4 => page.set_value(key, a, b),
-            5 => page.change_key(a as usize, key).map(|()| 0),
+            2 => {
+                let register = &mut self.registers[usize::from(request.page)];
+                let with = Beginning {
+                    height: a as u16,
+                    timestamp: b,
+                    lower: key,
+                    lower_value: request.c,
+                    upper: &request.second,
+                    hints: request.width == 1,
+                };
+                Page::from_slice(register, Width::Word)?.begin(&with)?;
+                Ok(0)
+            }
+            3 => Ok(self.page_mut(request)?.insert(key, a)? as u64),
+            4 => self.page_mut(request)?.set_value(key, a, b),
+            5 => {
+                self.page_mut(request)?.change_key(a as usize, key)?;
+                Ok(0)
+            }
             _ => {
+                let source = self.registers[usize::from(request.other)].clone();
                 let source = PageRef::from_slice(&source, Width::Word)?.bytes();
-                page.copy_run(source, a as usize, b as usize).map(|()| 0)
+                let mut page = self.page_mut(request)?;
+                page.copy_run(source, a as usize, b as usize)?;
+                Ok(0)
             }
         }
     }
 
-    /// A batch; none where it is cut.
+    /// A batch; none where it is cut, which is looked at before the page: where that is refused, any other page tells.
     fn batch(&mut self, request: &Request) -> Option<Reply> {
-        let register = &mut self.registers[usize::from(request.page)];
-        let page = PageRef::from_slice(register, Width::Word).map(|_| ());
-        let width = page.and_then(|()| Width::try_from(request.width));
-        let filed = match width {
-            Ok(width) => Page::from_slice(register, width)
-                .expect("a whole page")
-                .file_batch(&request.first),
+        let records = &request.first;
+        let filed = match self.page_mut(request) {
+            Ok(mut page) => page.file_batch(records),
             Err(refusal) => {
-                // Whether it is cut is looked at before the page: any page tells.
-                let cut = Page::new(&mut [0; dorgumanna::PAGE_BYTES], Width::Word)
-                    .file_batch(&request.first);
+                let cut = Page::new(&mut [0; PAGE_BYTES], Width::Word).file_batch(records)
+                    == Err(BatchRefusal::Cut);
                 Err(match cut {
-                    Err(BatchRefusal::Cut) => BatchRefusal::Cut,
-                    _ => BatchRefusal::Record { place: 0, refusal },
+                    true => BatchRefusal::Cut,
+                    false => BatchRefusal::Record { place: 0, refusal },
                 })
             }
         };
@@ -142,53 +148,11 @@ impl Ours {
     }
 }
 
-fn needed(request: &Request) -> Result<u64, Refusal> {
-    let width = Width::try_from(request.width)?;
-    need(width, request.a as usize, &request.first)
-}
-
-/// The whole key of a slot.
-fn whole_key(page: PageRef, slot: usize) -> Result<Vec<u8>, Refusal> {
-    let mut key = vec![0; 2 * dorgumanna::PAGE_BYTES];
-    let length = page.copy_key(slot, &mut key)?;
-    key.truncate(length);
-    Ok(key)
-}
-
-fn numbers(space: Space) -> Vec<u8> {
-    [
-        space.start,
-        space.end,
-        space.free,
-        space.used,
-        space.effective,
-        space.reclaimable,
-        space.compacted,
-    ]
-    .iter()
-    .flat_map(|number| number.to_le_bytes())
-    .collect()
-}
-
-/// What stands in a reply's bytes after a refusal: the buffer of a key copy as it was, else nothing.
-fn refused_bytes(request: &Request) -> Vec<u8> {
-    match request.call {
-        13 => request.second.clone(),
-        _ => Vec::new(),
-    }
-}
-
-fn reply<T>(answer: Result<T, Refusal>, done: impl FnOnce(T) -> Reply) -> Reply {
-    answer.map_or_else(|refusal| refused(refusal, Vec::new()), done)
-}
-
-fn refused(refusal: Refusal, bytes: Vec<u8>) -> Reply {
-    Reply {
+fn reply(answer: Result<Reply, Refusal>) -> Reply {
+    answer.unwrap_or_else(|refusal| Reply {
         number: refusal.number(),
-        a: refusal.carried(),
-        b: 0,
-        bytes,
-    }
+        ..number(refusal.carried())
+    })
 }
 
 fn number(a: u64) -> Reply {
@@ -208,4 +172,19 @@ fn bytes(bytes: Vec<u8>) -> Reply {
         bytes,
         ..Reply::default()
     }
+}
+
+fn numbers(space: Space) -> Vec<u8> {
+    [
+        space.start,
+        space.end,
+        space.free,
+        space.used,
+        space.effective,
+        space.reclaimable,
+        space.compacted,
+    ]
+    .iter()
+    .flat_map(|number| number.to_le_bytes())
+    .collect()
 }
