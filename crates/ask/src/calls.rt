@@ -8,13 +8,11 @@ use crate::wire;
 use crate::wire::Request;
 use child::lookup;
 use dorgumanna::answer;
-use node::entry;
 use node::key;
 use node::space;
 use node::trailing;
 use octets::number;
 use paper::answers::Copied;
-use paper::answers::EntryRead;
 use paper::answers::Space;
 use paper::answers::SpaceRead;
 use search::bound;
@@ -22,6 +20,8 @@ use search::compare;
 use search::find;
 use verdict::fit;
 use verdict::layout;
+use view::entry;
+use view::entry::EntryShown;
 
 // Answers a request whose runs stand at the front of `first` and `second`.
 pub(crate) fn answer(store: &mut [u8], first: &[u8], second: &mut [u8], q: Request) -> bool
@@ -113,15 +113,9 @@ fn on_key(page: &[u8], key: &[u8], q: Request) -> bool {
 
 // Entry: its value, and its key by way of `out`.
 fn entry_of(page: &[u8], q: Request, out: &mut [u8]) -> bool {
-    let i = q.a as usize;
-    match entry::entry(page, q.width, i) {
-        EntryRead::Is(_, v) => {
-            match key::copy_key(page, q.width, i, out) {
-                Copied::Bytes(n) => wire::reply(0, v, 0, wire::front(out, n)),
-                Copied::Refused(r) => wire::refused(r),
-            }
-        }
-        EntryRead::Refused(r) => wire::refused(r),
+    match entry::entry(page, q.width, q.a as usize, out) {
+        EntryShown::Is(v, n) => wire::reply(0, v, 0, wire::front(out, n)),
+        EntryShown::Refused(r) => wire::refused(r),
     }
 }
 

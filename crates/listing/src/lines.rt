@@ -2,19 +2,18 @@
 ghost use mathlib.Core.Path.{_≡_};
 ghost use mathlib.Core.List.{[], _∷_, _++_};
 ghost use Prim.Native.Nat.{_+_, _*_, _≤_};
-ghost use lib.ListN.{length, take};
-ghost use Rattle.octets.specs.Bytes.{bigBytes};
+ghost use lib.ListN.{length};
 ghost use Rattle.paper.specs.Page.{prefixOf, suffixOf, bodyBytes};
 ghost use Rattle.paper.specs.Printed.{decimal, numberWords, hexBytes, hexKey, refusedLine};
 ghost use Rattle.listing.specs.Texts.{Wrote, verdictText, spaceText, sumText, lineText};
 use crate::digits;
 use crate::sink::Sink;
 use node::entry;
-use node::key;
 use octets::runs;
 use octets::value;
 use paper::page::Header;
 use paper::page::Slot;
+use view::plain;
 
 // One character.
 fn put_mark(mark: u8, out: &mut [u8], at: usize) -> usize
@@ -105,26 +104,24 @@ pub fn sum_line(s: Sink, out: &mut [u8], at: usize) -> usize
     end_two(s.h1, s.h2, out, b)
 }
 
-// The first `n` bytes of a head in hex.
-fn put_short(head: u32, n: usize, out: &mut [u8], at: usize) -> usize
-    requires { ⌜ (n ≤ 4) × (at + 2 * n ≤ length (now out)) ⌝ }
-    ensures { λ r. ⌜ Wrote (now (out .entry)) at (hexBytes (take n (bigBytes 4 head))) (now (out .exit)) r × (r ≡ at + 2 * n) ⌝ }
+// The suffix of a slot in hex, where it is short.
+fn put_short(p: &[u8], prefix_len: u16, s: Slot, out: &mut [u8], at: usize) -> usize
+    requires { ⌜ (16384 ≤ length (now p)) × («prefix_len» ≤ 16256) × (s .len ≤ 4) × (at + 2 * s .len ≤ length (now out)) × (96 + s .offset + bodyBytes 4 (s .len) ≤ length (now p)) ⌝ }
+    ensures { λ r. ⌜ Wrote (now (out .entry)) at (hexBytes (suffixOf (now (p .entry)) s)) (now (out .exit)) r × (r ≡ at + 2 * s .len) ⌝ }
 {
-    let four = key::head_bytes(head);
-    digits::put_hex(&four[..n], out, at)
+    let four = plain::short_of(p, prefix_len, s);
+    digits::put_hex(&four[..s.len as usize], out, at)
 }
 
 // The suffix of a slot in hex.
-fn put_suffix(p: &[u8], s: Slot, out: &mut [u8], at: usize) -> usize
-    requires { ⌜ (at + 2 * s .len ≤ length (now out)) × (96 + s .offset + bodyBytes 4 (s .len) ≤ length (now p)) ⌝ }
+fn put_suffix(p: &[u8], prefix_len: u16, s: Slot, out: &mut [u8], at: usize) -> usize
+    requires { ⌜ (16384 ≤ length (now p)) × («prefix_len» ≤ 16256) × (at + 2 * s .len ≤ length (now out)) × (96 + s .offset + bodyBytes 4 (s .len) ≤ length (now p)) ⌝ }
     ensures { λ r. ⌜ Wrote (now (out .entry)) at (hexBytes (suffixOf (now (p .entry)) s)) (now (out .exit)) r × (r ≡ at + 2 * s .len) ⌝ }
 {
-    let n = s.len as usize;
-    if n <= 4 {
-        return put_short(s.head, n, out, at);
+    if s.len <= 4 {
+        return put_short(p, prefix_len, s, out, at);
     }
-    let start = 96 + (s.offset as usize);
-    digits::put_hex(&p[start..start + n], out, at)
+    digits::put_hex(plain::suffix_of(p, prefix_len, s), out, at)
 }
 
 // The key of a slot in hex, prefix and suffix; "-" where both are empty.
@@ -135,8 +132,8 @@ fn put_key(p: &[u8], prefix_len: u16, s: Slot, out: &mut [u8], at: usize) -> usi
     if (prefix_len as usize) + (s.len as usize) == 0 {
         return put_mark(45, out, at);
     }
-    let a = digits::put_hex(key::prefix(p, prefix_len), out, at);
-    put_suffix(p, s, out, a)
+    let a = digits::put_hex(plain::prefix_of(p, prefix_len, s), out, at);
+    put_suffix(p, prefix_len, s, out, a)
 }
 
 // The line of entry `i`, which is that of slot `s`.

@@ -28,20 +28,20 @@ returns c =
     let e = length-key _ _ (start .args .s) (start .pre .0) (start .pre .1) (start .pre .3) ∙ test .if1 .taken in
     (rw (key-none _ e) (c .before .before .put-mark .ensures), omega arith)
 
-prefix-requires : tie.Need-prefix-requires
-prefix-requires c κs = search needs
+prefix-of-requires : tie.Need-prefix-of-requires
+prefix-of-requires c κs = search needs
 
 put-hex-requires : tie.Need-put-hex-requires
 put-hex-requires c κs =
     let start = c .before .before .before .before .before .before in
-    rw (c .before .prefix .ensures, length-prefixOf _ _ (start .pre .0) (start .pre .1)) (omega arith)
+    rw (c .before .prefix-of .ensures, length-prefixOf _ _ (start .pre .0) (start .pre .1)) (omega arith)
 
 put-suffix-requires : tie.Need-put-suffix-requires
 put-suffix-requires c κs =
     let start = c .before .before .before .before .before .before .before .before .before .before in
     let first = c .before .before .before in
-    let front = hexed _ _ _ _ _ _ _ (first .before .before .prefix .ensures) (length-prefixOf _ _ (start .pre .0) (start .pre .1)) (first .put-hex .ensures) in
-    (omega (arith, front .1), start .pre .3)
+    let front = hexed _ _ _ _ _ _ _ (first .before .before .prefix-of .ensures) (length-prefixOf _ _ (start .pre .0) (start .pre .1)) (first .put-hex .ensures) in
+    (start .pre .0, start .pre .1, omega (arith, front .1), start .pre .3)
 
 same-length-2 : tie.Need-same-length-2
 same-length-2 c = search needs
@@ -55,7 +55,7 @@ returns-2 c =
     let n = start .args .prefix-len in
     let s = start .args .s in
     let e = length-key p n s (start .pre .0) (start .pre .1) (start .pre .3) in
-    let front = hexed _ _ _ _ _ _ _ (first .before .before .prefix .ensures) (length-prefixOf p n (start .pre .0) (start .pre .1)) (first .put-hex .ensures) in
+    let front = hexed _ _ _ _ _ _ _ (first .before .before .prefix-of .ensures) (length-prefixOf p n (start .pre .0) (start .pre .1)) (first .put-hex .ensures) in
     let back = c .before .before .put-suffix .ensures in
     (rw (key-hexed (prefixOf p n) (suffixOf p s) (n + s .len) e (omega arith)) (then _ _ _ _ _ _ _ _ (front .0) (back .0)), omega arith)
 
@@ -68,7 +68,7 @@ put-key-spec =
     put-mark-requires
     same-length
     returns
-    prefix-requires
+    prefix-of-requires
     put-hex-requires
     put-suffix-requires
     same-length-2

@@ -1,12 +1,11 @@
--- Short or long, the suffix that the page has is what is written.
-use Rattle.node.proofs.Spelling.{suffix-short, suffix-long, suffix-room, length-suffixOf}
+-- A long suffix is the view's, as it stands on the page.
+use mathlib.Core.Path.{_∙_}
+use Rattle.node.proofs.Spelling.{length-suffixOf}
+use Rattle.view.proofs.Longs.{long-is}
 use Rattle.listing.proofs.Writing.{hexed}
 use borrow.Author.Needs.{needs}
 use Rattle.listing.proofs.lines.put_suffix.Statement.{statement}
 use Rattle.listing.proofs.lines.put_suffix.Tie as tie
-
-cast-n : tie.Need-cast-n
-cast-n c = search needs
 
 put-short-requires : tie.Need-put-short-requires
 put-short-requires c κs = search needs
@@ -15,55 +14,35 @@ same-length : tie.Need-same-length
 same-length c = search needs
 
 returns : tie.Need-returns
-returns c =
-    let test = c .before .before .before .before in
-    let start = test .before .before .before .before in
-    rw (suffix-short _ (start .args .s) (test .if1 .taken)) (c .before .before .put-short .ensures)
+returns c = search needs
 
-cast-start : tie.Need-cast-start
-cast-start c = search needs
-
-add-start : tie.Need-add-start
-add-start c = search needs
-
-add-put-hex : tie.Need-add-put-hex
-add-put-hex c = search needs
-
-sub-put-hex : tie.Need-sub-put-hex
-sub-put-hex c = search needs
-
-part-put-hex-start : tie.Need-part-put-hex-start
-part-put-hex-start c = search needs
-
-part-put-hex-end : tie.Need-part-put-hex-end
-part-put-hex-end c = suffix-room _ _ _ (c .before .if1 .left) (c .before .before .before .before .before .pre .1)
+suffix-of-requires : tie.Need-suffix-of-requires
+suffix-of-requires c κs = search needs
 
 put-hex-requires : tie.Need-put-hex-requires
-put-hex-requires c κs = search needs
+put-hex-requires c κs =
+    let start = c .before .before .before .before .before .before in
+    let s = start .args .s in
+    rw (c .before .suffix-of .ensures, long-is _ s (c .before .before .if1 .left), length-suffixOf _ s (start .pre .3)) (start .pre .2)
 
 same-length-2 : tie.Need-same-length-2
 same-length-2 c = search needs
 
 returns-2 : tie.Need-returns-2
 returns-2 c =
-    let test = c .before .before .before .before .before .before in
-    let start = test .before .before .before .before in
-    hexed _ _ _ _ _ _ _ (suffix-long _ (start .args .s) (test .if1 .left)) (length-suffixOf _ (start .args .s) (start .pre .1)) (c .before .before .put-hex .ensures)
+    let long = c .before .before .before .before in
+    let start = long .before .before .before .before .before in
+    let s = start .args .s in
+    hexed _ _ _ _ _ _ _ (long .suffix-of .ensures ∙ long-is _ s (long .before .if1 .left)) (length-suffixOf _ s (start .pre .3)) (c .before .before .put-hex .ensures)
 
 pub put-suffix-spec : {M : Type 1} → statement M
 put-suffix-spec =
     tie.close
     (tie.spec
-    cast-n
     put-short-requires
     same-length
     returns
-    cast-start
-    add-start
-    add-put-hex
-    sub-put-hex
-    part-put-hex-start
-    part-put-hex-end
+    suffix-of-requires
     put-hex-requires
     same-length-2
     returns-2)

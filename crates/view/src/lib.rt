@@ -1,0 +1,4 @@
+pub mod entry;
+pub mod key;
+pub mod parts;
+pub mod plain;
