@@ -6,16 +6,16 @@ use mathlib.Core.List.{List, [], _∷_, _++_, append-nil}
 use Prim.Native.Nat.{ℕ, _+_, _-_, _≤_, _<_, min}
 use native.Mathlib.Decide.{decLe}
 use native.Mathlib.Omega.{arith}
+use borrow.Author.Tests.{leb-true}
 use lib.Dec.{eqb}
 use lib.ListN.{length, take, drop, length-take, length-drop, take-append-drop, drop-of-length-le}
 use lib.Seq.{take-all, take-append-le, take-append-add, drop-append-le, drop-append-add}
 use Rattle.octets.specs.Bytes.{bigBytes}
 use Rattle.keys.specs.Choice.{both}
-use Rattle.keys.specs.Keys.{byNumber, order, common, sameList}
+use Rattle.keys.specs.Keys.{begins, byNumber, order, common, sameList}
 use Rattle.keys.specs.declared.order.Order.{Order}
 use Rattle.keys.proofs.Numbers.{alike?, byNumber-eq, byNumber-ne}
-use Rattle.keys.proofs.Orders.{sameList-eq, ne-sameList}
-use Rattle.keys.proofs.Prefixes.{common-eq, common-ne, common-le}
+use Rattle.keys.proofs.Prefixes.{common-eq, common-ne, common-le, begins-common}
 use Rattle.paper.specs.Page.{prefixOf, suffixOf, frameOf, headerOf}
 use Rattle.paper.specs.Verdicts.{inside}
 use Rattle.paper.specs.Refusals.{judge}
@@ -28,7 +28,7 @@ use Rattle.paper.specs.declared.answers.Edited.the-variants.{Done, Refused as E
 use Rattle.node.proofs.Spelling.{length-prefixOf, suffix-short}
 use Rattle.search.specs.Fence.{insideBy}
 use Rattle.search.proofs.Fences.{inside-is}
-use Rattle.edit.specs.RunTests.{Fenced, Meeting, begins, standing}
+use Rattle.edit.specs.RunTests.{Fenced, Meeting, standing}
 
 -- ---- the order of two pieces a and b and a key x
 -- the first piece decides where it is not the front of x
@@ -71,17 +71,8 @@ pub short-suffix : (p : List ℕ) (s : Slot) (four : List ℕ) → s .len ≤ 4 
 short-suffix p s four h e = ap (take (s .len)) e ∙ sym (suffix-short p s h)
 
 -- ---- s begins with x
-pub begins-not : (s x : List ℕ) → length s < length x → begins s x ≡ false
-unfolding begins
-begins-not s x h =
-    ne-sameList (take (length x) s) x
-    (λ e. let l : min (length x) (length s) ≡ length x = sym (length-take (length x) s) ∙ ap length e in omega arith)
-
 begins-length : (s x : List ℕ) → begins s x ≡ true → length x ≤ length s
-unfolding begins
-begins-length s x h =
-    let l : min (length x) (length s) ≡ length x = sym (length-take (length x) s) ∙ ap length (sameList-eq (take (length x) s) x h) in
-    omega arith
+begins-length s x h = let l = leb-true (length x) (common s x) (sym (begins-common s x) ∙ h) in omega (arith, common-le s x .0)
 
 -- ---- lists in two pieces
 same-two : (a b x y : List ℕ) → length a ≡ length x → sameList (a ++ b) (x ++ y) ≡ both (sameList a x) (sameList b y)

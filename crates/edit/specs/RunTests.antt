@@ -40,10 +40,6 @@ pub record Meeting (p : List ℕ) (h : Header) (x : List ℕ) (c : ℕ) (alike :
   pub cut : c ≡ min (h .«prefix_len») (length x)
   pub alikeness : alike ≡ sameList (take c x) (take c (prefixOf p (h .«prefix_len»)))
 
--- does s begin with x
-unfoldable pub begins : List ℕ → List ℕ → Bool
-begins s x = sameList (take (length x) s) x
-
 -- ---- 8 and 9 for one key
 unfoldable pub standing : List ℕ → List ℕ → Edited
 standing p k = judge (prefixHeld p k ∷ insideFences p k ∷ []) Done Edited·Refused

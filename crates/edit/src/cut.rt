@@ -6,7 +6,7 @@ ghost use Rattle.keys.specs.Keys.{order};
 ghost use Rattle.paper.specs.Lists.{less};
 ghost use Rattle.paper.specs.Page.{suffixOf};
 ghost use Rattle.search.specs.Fence.{LongLies, insideBy};
-ghost use Rattle.edit.specs.RunTests.{Fenced, Meeting, begins, standing};
+ghost use Rattle.edit.specs.RunTests.{Fenced, Meeting, standing};
 use keys::order::Order;
 use keys::shared;
 use node::key;
@@ -78,17 +78,6 @@ fn inside_two(p: &[u8], h: Header, lead: &[u8], rest: &[u8]) -> bool
     below_slot(p, h.upper, lead, rest)
 }
 
-// Whether some bytes begin with others.
-fn begins_with(s: &[u8], first: &[u8]) -> bool
-    ensures { λ r. ⌜ r ≡ begins (now (s .entry)) (now (first .entry)) ⌝ }
-{
-    let n = first.len();
-    if s.len() < n {
-        return false;
-    }
-    shared::equal(&s[..n], first)
-}
-
 // 8 and 9 for a source's prefix and a suffix behind it. `cut` is the length of the shorter of both pages' prefixes, and `alike` says whether the two
 // are the same that far.
 pub(crate) fn stands(
@@ -107,7 +96,7 @@ pub(crate) fn stands(
     }
     let whole = key::prefix(p, h.prefix_len);
     let wanted = &whole[cut..];
-    if !begins_with(suffix, wanted) {
+    if !shared::begins_with(suffix, wanted) {
         return Edited::Refused(Refusal::Prefix);
     }
     if !inside_two(p, h, &prefix[cut..], &suffix[wanted.len()..]) {

@@ -1,6 +1,5 @@
--- Laws of the order of two numbers, `byNumber`, and of tests. Assumes nothing.
-use mathlib.Core.Path.{_≡_, refl, sym, ap, _∙_}
-use mathlib.Core.Bool.{Bool, true, false, _&&_, false≢true}
+-- Laws of the order of two numbers, `byNumber`. Assumes nothing.
+use mathlib.Core.Path.{_≡_, sym, ap, _∙_}
 use mathlib.Core.Logic.{_⊎_, inl, inr, ⊎-elim}
 use Prim.Native.Nat.{ℕ, suc, _+_, _*_, _<_}
 use native.Mathlib.Decide.{decLt}
@@ -91,8 +90,3 @@ byNumber-same x y o e =
     ⊎-elim (λ h. below-same (sym (byNumber-lt x y o h) ∙ e))
     (⊎-elim (λ h. (h, sym (byNumber-eq x y o h) ∙ e)) (λ h. same-above (sym e ∙ byNumber-gt x y o h)))
     (tri x y)
-
--- ---- tests
-pub both-true : (x y : Bool) → x && y ≡ true → (x ≡ true) × (y ≡ true)
-both-true true y e = (refl, e)
-both-true false y e = absurd (false≢true e)

@@ -1,18 +1,19 @@
 -- Laws of the length of the common prefix: what lies within it, that it is the longest, and that it decides where the order of two
 -- keys is found. Assumes nothing.
 use mathlib.Core.Path.{_≡_, refl, sym, ap, _∙_}
+use mathlib.Core.Bool.{false}
 use mathlib.Core.Logic.{_⊎_, inl, inr, ⊎-elim}
 use mathlib.Core.List.{List, [], _∷_, _++_}
-use Prim.Native.Nat.{ℕ, zero, suc, _+_, _-_, _≤_, _<_}
+use Prim.Native.Nat.{ℕ, zero, suc, _+_, _-_, _≤_, _<_, min}
 use native.Mathlib.Nat.{suc-add, zero-add}
-use native.Mathlib.Decide.{decLt}
+use native.Mathlib.Decide.{decLe, decLt}
 use native.Mathlib.Omega.{arith}
-use borrow.Author.Tests.{eq-eqb, ne-eqb}
-use lib.Dec.{eqb}
+use borrow.Author.Tests.{eq-eqb, ne-eqb, le-leb, lt-leb}
+use lib.Dec.{leb, eqb}
 use lib.ListN.{length, getD, take, drop, length-take}
-use lib.Seq.{ext-getD, getD-take, length-take-le}
+use lib.Seq.{ext-getD, getD-take, length-take-le, take-all}
 use Rattle.octets.proofs.Alike.{Alike}
-use Rattle.keys.specs.Keys.{byNumber, order, common, sameList}
+use Rattle.keys.specs.Keys.{begins, byNumber, order, common, sameList}
 use Rattle.keys.specs.declared.order.Order.the-variants.{Same}
 use Rattle.keys.proofs.Numbers.{alike?, byNumber-lt, byNumber-eq, byNumber-gt, byNumber-ne, byNumber-suc}
 use Rattle.keys.proofs.Orders.{order-same, order-step, eq-sameList, ne-sameList}
@@ -164,3 +165,32 @@ common-test a b e =
     ⊎-elim (λ c. eq-eqb (common a b) (length a) c ∙ sym (eq-sameList a b (all-common a b e c)))
     (λ c. ne-eqb (common a b) (length a) c ∙ sym (ne-sameList a b (λ s. c (ap (λ (x : List ℕ). common a x) (sym s) ∙ common-self a))))
     (alike? (common a b) (length a))
+
+-- ---- a key that begins with another has all of it in common
+pub begins-common : (a b : List ℕ) → begins a b ≡ leb (length b) (common a b)
+unfolding begins
+begins-common a b = go (decLe (length b) (common a b))
+  where
+    whole : take (length b) b ≡ b
+    whole = take-all (length b) b (omega arith)
+
+    long : take (length b) a ≡ b → length b ≤ length a
+    long e = let l : min (length b) (length a) ≡ length b = sym (length-take (length b) a) ∙ ap length e in omega arith
+
+    go : Dec (length b ≤ common a b) → sameList (take (length b) a) b ≡ leb (length b) (common a b)
+    go (yes h) = eq-sameList (take (length b) a) b (common-take a b (length b) h ∙ whole) ∙ sym (le-leb (length b) (common a b) h)
+    go (no h) =
+        ne-sameList (take (length b) a) b (λ e. h (take-common a b (length b) (long e) (omega arith) (e ∙ sym whole)))
+        ∙ sym (lt-leb (length b) (common a b) (omega arith))
+
+-- so a shorter key does not
+pub begins-not : (a b : List ℕ) → length a < length b → begins a b ≡ false
+begins-not a b h = let l = common-le a b .0 in begins-common a b ∙ lt-leb (length b) (common a b) (omega arith)
+
+-- n bytes were found in common
+pub begins-found : (a b : List ℕ) (n : ℕ) → n ≡ common a b → eqb n (length b) ≡ begins a b
+begins-found a b n e = go (alike? n (length b)) ∙ sym (begins-common a b)
+  where
+    go : (n ≡ length b) ⊎ (n ≡ length b → ⊥) → eqb n (length b) ≡ leb (length b) (common a b)
+    go (inl f) = eq-eqb n (length b) f ∙ sym (le-leb (length b) (common a b) (omega arith))
+    go (inr f) = let l = common-le a b .1 in ne-eqb n (length b) f ∙ sym (lt-leb (length b) (common a b) (omega arith))

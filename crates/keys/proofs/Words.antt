@@ -1,12 +1,15 @@
 -- Words of bytes against the order of keys and their common prefix: what a loop over words knows at each way out, whatever its step and
 -- its byte order. The invariant of all of them is a number, `i ≤ common a b`. Assumes nothing.
 use mathlib.Core.Path.{_≡_, refl, sym, _∙_}
+use mathlib.Core.Bool.{Bool, true, false, _&&_}
 use mathlib.Core.Logic.{_⊎_, inl, inr, ⊎-elim}
 use mathlib.Core.List.{List}
 use Prim.Native.Nat.{ℕ, zero, suc, _+_, _^_, _≤_, _<_}
 use native.Mathlib.Nat.{add-zero}
 use native.Mathlib.Decide.{decLt}
 use native.Mathlib.Omega.{arith}
+use borrow.Author.Tests.{eq-eqb, ne-eqb, le-leb, lt-leb, leb-true, leb-false}
+use lib.Dec.{leb, eqb}
 use lib.ListN.{length, getD, drop}
 use Rattle.octets.specs.Bytes.{IsBytes, le, be}
 use Rattle.octets.proofs.Alike.{le-alike}
@@ -15,7 +18,7 @@ use Rattle.octets.proofs.Big.{be-lt, be-same}
 use Rattle.keys.specs.Keys.{byNumber, order, common}
 use Rattle.keys.specs.Walk.{Near}
 use Rattle.keys.specs.declared.order.Order.the-variants.{Same}
-use Rattle.keys.proofs.Numbers.{byNumber-eq, byNumber-ne, byNumber-digits}
+use Rattle.keys.proofs.Numbers.{alike?, byNumber-eq, byNumber-ne, byNumber-digits}
 use Rattle.keys.proofs.Orders.{order-step}
 use Rattle.keys.proofs.Prefixes.{common-at, common-grow, order-skip, order-lengths}
 
@@ -55,6 +58,18 @@ module _ (a b : List ℕ) (ha : IsBytes a) (hb : IsBytes b) (n i : ℕ) (x y : �
       within : Dec (common a b < i + n) → common a b < i + n
       within (yes l) = l
       within (no l) = absurd (e (p ∙ le-alike n a i b i (λ j m. common-at a b (i + j) (omega arith)) ∙ sym q))
+
+  -- so the test of two words, where what stands before them agrees, is that of the common prefix
+  pub block-test : (m : ℕ) → i + n ≡ m → x ≡ le n a i → y ≡ le n b i → i ≤ common a b → m ≤ length a → m ≤ length b → eqb x y ≡ leb m (common a b)
+  block-test m e p q c h k =
+      ⊎-elim (λ f. let on = block-on p q f c (omega arith) (omega arith) in eq-eqb x y f ∙ sym (le-leb m (common a b) (omega arith)))
+      (λ f. let out = block-out p q f c (omega arith) (omega arith) .differ in ne-eqb x y f ∙ sym (lt-leb m (common a b) (omega arith)))
+      (alike? x y)
+
+-- two tests of one number, the second of them right where the first holds
+pub both-test : (t u : Bool) (m k c : ℕ) → m ≤ k → t ≡ leb m c → (m ≤ c → u ≡ leb k c) → t && u ≡ leb k c
+both-test true u m k c h e f = f (leb-true m c (sym e))
+both-test false u m k c h e f = let l = leb-false m c (sym e) in sym (lt-leb k c (omega arith))
 
 -- ---- the half with the first difference
 module _ (a b : List ℕ) (ha : IsBytes a) (hb : IsBytes b) (n i : ℕ) (x y : ℕ) (N : Near a b i (n + n)) (p : x ≡ le n a i) (q : y ≡ le n b i) where

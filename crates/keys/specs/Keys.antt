@@ -3,7 +3,7 @@ use Prim.Native.Nat.{ℕ, suc, min}
 use mathlib.Core.Bool.{Bool, true, false}
 use mathlib.Core.List.{List, [], _∷_}
 use lib.Dec.{leb, ltb, eqb}
-use lib.ListN.{length}
+use lib.ListN.{length, take}
 use Rattle.octets.specs.Bytes.{be}
 use Rattle.keys.specs.Choice.{pick, both}
 use Rattle.keys.specs.declared.order.Order.{Order}
@@ -46,3 +46,7 @@ sameList [] [] = true
 sameList [] (y ∷ ys) = false
 sameList (x ∷ xs) [] = false
 sameList (x ∷ xs) (y ∷ ys) = both (eqb x y) (sameList xs ys)
+
+-- whether the key a begins with b
+unfoldable pub begins : List ℕ → List ℕ → Bool
+begins a b = sameList (take (length b) a) b

@@ -1,7 +1,10 @@
-// What two keys share: the length of their longest common prefix, whether they are equal, and their order by it.
+// What two keys share: the length of their longest common prefix, whether they are equal, whether one begins with the
+// other, and their order by it.
 ghost use mathlib.Core.Path.{_≡_};
 ghost use Prim.Native.Nat.{_≤_};
-ghost use Rattle.keys.specs.Keys.{common, order, sameList};
+ghost use lib.Dec.{leb};
+ghost use lib.ListN.{length};
+ghost use Rattle.keys.specs.Keys.{begins, common, order, sameList};
 ghost use Rattle.keys.specs.Walk.{Near, Reach};
 use crate::order::Order;
 use crate::walk;
@@ -104,6 +107,35 @@ pub fn equal(a: &[u8], b: &[u8]) -> bool
         return false;
     }
     common_prefix_len(a, b) == a.len()
+}
+
+// Whether the first `n` bytes agree: blocks of 32, the last one up to the end.
+fn blocks_agree(a: &[u8], b: &[u8], n: usize) -> bool
+    requires { ⌜ (32 ≤ n) × (n ≤ length (now a)) × (n ≤ length (now b)) ⌝ }
+    ensures { λ r. ⌜ r ≡ leb n (common (now (a .entry)) (now (b .entry))) ⌝ }
+{
+    let mut i = 0;
+    while n - i >= 32 {
+        if !walk::same_32(a, b, i) {
+            return false;
+        }
+        i += 32;
+    }
+    walk::same_32(a, b, n - 32)
+}
+
+// Whether `a` begins with `b`.
+pub fn begins_with(a: &[u8], b: &[u8]) -> bool
+    ensures { λ r. ⌜ r ≡ begins (now (a .entry)) (now (b .entry)) ⌝ }
+{
+    let n = b.len();
+    if a.len() < n {
+        return false;
+    }
+    if n < 32 {
+        return common_prefix_len(a, b) == n;
+    }
+    blocks_agree(a, b, n)
 }
 
 // How `a` stands to `b`, by what they share. Where speed matters less than the one call of `order::compare`, which then melts

@@ -1,8 +1,8 @@
 // The steps that every walk over two keys begins with.
 ghost use mathlib.Core.Path.{_≡_};
-ghost use mathlib.Core.Bool.{true};
 ghost use mathlib.Core.Logic.{_⊎_};
 ghost use Prim.Native.Nat.{_+_, _≤_};
+ghost use lib.Dec.{leb};
 ghost use lib.ListN.{length};
 ghost use Rattle.keys.specs.Keys.{common};
 ghost use Rattle.keys.specs.Walk.{Reach};
@@ -15,10 +15,11 @@ pub(crate) fn lesser(a: usize, b: usize) -> usize
     if a < b { a } else { b }
 }
 
-// Whether the 32 bytes from i on agree. One test of four words: four early returns would cost more.
-fn same_32(a: &[u8], b: &[u8], i: usize) -> bool
-    requires { ⌜ (i + 32 ≤ length (now a)) × (i + 32 ≤ length (now b)) ⌝ }
-    ensures { λ r. ⌜ (r ≡ true → i ≤ common (now (a .entry)) (now (b .entry)) → i + 32 ≤ common (now (a .entry)) (now (b .entry))) ⌝ }
+// Whether the 32 bytes from i on agree, where those before them do. One test of four words: four early returns would
+// cost more.
+pub(crate) fn same_32(a: &[u8], b: &[u8], i: usize) -> bool
+    requires { ⌜ (i + 32 ≤ length (now a)) × (i + 32 ≤ length (now b)) × (i ≤ common (now a) (now b)) ⌝ }
+    ensures { λ r. ⌜ r ≡ leb (i + 32) (common (now (a .entry)) (now (b .entry))) ⌝ }
 {
     let one = number::read_u64(a, i) == number::read_u64(b, i);
     let two = number::read_u64(a, i + 8) == number::read_u64(b, i + 8);

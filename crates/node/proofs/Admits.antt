@@ -7,6 +7,7 @@ use native.Mathlib.Omega.{arith}
 use borrow.Author.Tests.{eqb-true, leb-true, le-ltb, lt-ltb}
 use lib.Dec.{leb, eqb}
 use lib.ListN.{length}
+use Rattle.octets.specs.Bytes.{le}
 use Rattle.keys.specs.Choice.{pick}
 use Rattle.paper.specs.Page.{slotAt, place, slotOf, frameOf, numbersOf, headerOf}
 use Rattle.paper.specs.Verdicts.{slotPayload, within, headerRules}
@@ -64,14 +65,10 @@ module _ (w : ℕ) (p : List ℕ) (n : ℕ) where
       same : (h : Header) → admitOf w p n ≡ Admitted·Is h → h ≡ headerOf p
       same h e = let f : admitOf w p n ≡ Admitted·Is (headerOf p) = unfold admitOf in judge-hold (admitChecks w p n) (Admitted·Is (headerOf p)) Admitted·Refused (holds h e) in cc
 
-  -- its numbers are the page's
-  pub count-is : (h : Header) → admitOf w p n ≡ Admitted·Is h → h .count ≡ numbersOf p .count
+  -- its count is the page's
+  count-is : (h : Header) → admitOf w p n ≡ Admitted·Is h → h .count ≡ numbersOf p .count
   unfolding headerOf
   count-is h e = ap (λ (k : Header). k .count) (admitted h e .header)
-
-  pub end-is : (h : Header) → admitOf w p n ≡ Admitted·Is h → h .end ≡ numbersOf p .end
-  unfolding headerOf
-  end-is h e = ap (λ (k : Header). k .end) (admitted h e .header)
 
   -- and all its slots lie within it
   pub slots-within : (h : Header) → admitOf w p n ≡ Admitted·Is h → (16384 ≤ length p) × (8 * h .count ≤ 16256)
@@ -119,6 +116,14 @@ module _ (w : ℕ) (p : List ℕ) (n : ℕ) where
   unfolding admitsOf admitOf refusalOf
   admits-not e = last-of (eqb (length p) 16384) (isWidth w) (leb n 65535) (headerRules (frameOf p) (numbersOf p)) _ _ _ _ (Admitted·Is (headerOf p)) Admitted·Refused e
 
+  -- what is read of the header then lies within the page, and so do the slots by the number that was read
+  pub admits-size : admitsOf w p n ≡ true → length p ≡ 16384
+  admits-size e = admitted w p n (headerOf p) (admits-is e) .size
+
+  pub admits-slots : admitsOf w p n ≡ true → (count : ℕ) → count ≡ le 2 p 2 → (16384 ≤ length p) × (8 * count ≤ 16256)
+  unfolding headerOf numbersOf
+  admits-slots e count k = rw k (slots-within w p n (headerOf p) (admits-is e))
+
 -- ---- a slot that is visited
 module _ (w : ℕ) (p : List ℕ) (count end i : ℕ) where
   pub slot-none : count ≤ i → slotReadOf w p count end i ≡ Slot·Refused SlotNumber
@@ -139,10 +144,10 @@ module _ (w : ℕ) (p : List ℕ) (count end i : ℕ) where
   slot-in s h e f = rw (lt-ltb i count h, ← read-is s e, f)
 
 -- the slot that was read is the page's, and a call with these tests goes on or is refused alike
-slot-not : (s : Slot) (q : Refusal) → Slot·Is s ≡ Slot·Refused q → ⊥
+pub slot-not : (s : Slot) (q : Refusal) → Slot·Is s ≡ Slot·Refused q → ⊥
 slot-not s q e = let z : _≡_ {A = ℕ} 0 1 = cc in omega arith
 
-slot-refused-is : (x q : Refusal) → Slot·Refused x ≡ Slot·Refused q → x ≡ q
+pub slot-refused-is : (x q : Refusal) → Slot·Refused x ≡ Slot·Refused q → x ≡ q
 slot-refused-is x q e = cc
 
 module _ (w : ℕ) (p : List ℕ) (count end i : ℕ) where

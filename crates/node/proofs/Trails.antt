@@ -10,19 +10,18 @@ use borrow.Author.Tests.{le-leb, lt-leb}
 use lib.Dec.{leb}
 use lib.ListN.{length, take, drop, length-append, length-drop}
 use lib.Seq.{take-all, getD-drop, drop-append-le, getD-append-add}
-use Rattle.octets.specs.Bytes.{be, put}
+use Rattle.octets.specs.Bytes.{le, be, put}
 use Rattle.octets.proofs.Alike.{be-alike, be-put-inside, be-part}
 use Rattle.keys.specs.Choice.{pick}
 use Rattle.paper.specs.Page.{slotOf, prefixOf, suffixOf, bodyBytes}
 use Rattle.paper.specs.Refusals.{check, judge}
 use Rattle.paper.specs.Calls.{keyAt, trailingOf}
 use Rattle.paper.specs.declared.page.Slot.{Slot}
-use Rattle.paper.specs.declared.page.Header.{Header}
 use Rattle.paper.specs.declared.refusal.Refusal.{Refusal}
 use Rattle.paper.specs.declared.refusal.Refusal.the-variants.{ShortKey}
 use Rattle.paper.specs.declared.answers.Trailing.the-variants.{Id, Refused as Trailing·Refused}
 use Rattle.node.specs.Admit.{openedOf}
-use Rattle.node.specs.declared.entry.Opened.the-variants.{Is as Opened·Is, Refused as Opened·Refused}
+use Rattle.node.specs.declared.slots.SlotRead.the-variants.{Is as Slot·Is, Refused as Slot·Refused}
 use Rattle.node.proofs.Entries.{opened-judge, shut-judge}
 use Rattle.node.proofs.Spelling.{length-prefixOf, length-suffixOf, suffix-room, put-both}
 use Rattle.node.proofs.Copies.{size-least, prefix-most, suffix-within, key-is, key-length}
@@ -65,36 +64,37 @@ module _ (p f : List ℕ) (n : ℕ) (size : 16384 ≤ length p) (most : n ≤ 16
       (be-put-inside 8 z 0 (drop d f ++ suf) 0 (omega arith) (omega arith) ∙ be-later 8 d f suf (omega (arith, front-length)) ∙ rw (at, e))
 
 -- ---- the trailing id
-module _ (w : ℕ) (p : List ℕ) (i : ℕ) (h : Header) (s : Slot) (e : openedOf w p i ≡ Opened·Is h s) where
+module _ (w : ℕ) (p : List ℕ) (i : ℕ) (s : Slot) (e : openedOf w p i ≡ Slot·Is s) where
   abbrev key : List ℕ
   key = keyAt p (slotOf p i)
 
   trailing-by : (t : Bool) → leb 8 (length key) ≡ t → trailingOf w p i ≡ pick t (Id (be 8 key (length key - 8))) (Trailing·Refused ShortKey)
   unfolding trailingOf judge
-  trailing-by t l = opened-judge w p i h s e (check (leb 8 (length key)) ShortKey ∷ []) (Id (be 8 key (length key - 8))) Trailing·Refused ∙ rw l
-
-  module _ (n : ℕ) (k : n ≡ h .«prefix_len» + s .len) where
-    pub trailing-short : n < 8 → Trailing·Refused ShortKey ≡ trailingOf w p i
-    trailing-short l = sym (trailing-by false (rw (key-length w p i h s e) (lt-leb 8 (h .«prefix_len» + s .len) (omega arith))))
-
-    pub trailing-is : (v : ℕ) → 8 ≤ n → v ≡ be 8 (prefixOf p (h .«prefix_len») ++ suffixOf p s) (h .«prefix_len» + s .len - 8) → Id v ≡ trailingOf w p i
-    trailing-is v l f =
-        sym (trailing-by true (rw (key-length w p i h s e) (le-leb 8 (h .«prefix_len» + s .len) (omega arith))) ∙ rw (key-length w p i h s e, key-is w p i h s e, f))
+  trailing-by t l = opened-judge w p i s e (check (leb 8 (length key)) ShortKey ∷ []) (Id (be 8 key (length key - 8))) Trailing·Refused ∙ rw l
 
   -- of a long suffix it stands on the page
-  module _ (m : ℕ) (k : m ≡ s .offset + s .len) (long : 8 < s .len) where
-    pub long-within : 88 + m + 8 ≤ length p
-    long-within = omega (arith, suffix-room (s .len) (96 + s .offset) (length p) (omega arith) (suffix-within w p i h s e))
+  pub long-within : (u : ℕ) → u ≡ s .offset + s .len → 8 < s .len → 88 + u + 8 ≤ length p
+  long-within u k long = omega (arith, suffix-room (s .len) (96 + s .offset) (length p) (omega arith) (suffix-within w p i s e))
 
-    pub long-is : be 8 p (88 + m) ≡ be 8 (prefixOf p (h .«prefix_len») ++ suffixOf p s) (h .«prefix_len» + s .len - 8)
+  -- by the prefix length that was read
+  module _ (m : ℕ) (f : m ≡ le 2 p 46) where
+    module _ (n : ℕ) (k : n ≡ m + s .len) where
+      pub trailing-short : n < 8 → Trailing·Refused ShortKey ≡ trailingOf w p i
+      trailing-short l = sym (trailing-by false (rw (key-length w p i s e m f) (lt-leb 8 (m + s .len) (omega arith))))
+
+      pub trailing-is : (v : ℕ) → 8 ≤ n → v ≡ be 8 (prefixOf p m ++ suffixOf p s) (m + s .len - 8) → Id v ≡ trailingOf w p i
+      trailing-is v l g =
+          sym (trailing-by true (rw (key-length w p i s e m f) (le-leb 8 (m + s .len) (omega arith))) ∙ rw (key-length w p i s e m f, key-is w p i s e m f, g))
+
+    pub long-is : (u : ℕ) → u ≡ s .offset + s .len → 8 < s .len → be 8 p (88 + u) ≡ be 8 (prefixOf p m ++ suffixOf p s) (m + s .len - 8)
     unfolding suffixOf
-    long-is =
-        let pre = prefixOf p (h .«prefix_len») in
-        let there : length pre ≡ h .«prefix_len» = length-prefixOf p (h .«prefix_len») (size-least w p i h s e) (prefix-most w p i h s e) in
-        let at : h .«prefix_len» + s .len - 8 ≡ length pre + (s .len - 8) = omega arith in
-        let from : 96 + s .offset + (s .len - 8) ≡ 88 + m = omega arith in
+    long-is u k long =
+        let pre = prefixOf p m in
+        let there : length pre ≡ m = length-prefixOf p m (size-least w p i s e) (prefix-most w p i s e m f) in
+        let at : m + s .len - 8 ≡ length pre + (s .len - 8) = omega arith in
+        let from : 96 + s .offset + (s .len - 8) ≡ 88 + u = omega arith in
         sym (rw (at, be-beyond 8 pre (suffixOf p s) (s .len - 8), suffixOf, lt-leb (s .len) 4 (omega arith), be-part 8 (s .len) p (96 + s .offset) (s .len - 8) (omega arith), from))
 
-pub trailing-shut : (w : ℕ) (p : List ℕ) (i : ℕ) (q : Refusal) → openedOf w p i ≡ Opened·Refused q → Trailing·Refused q ≡ trailingOf w p i
+pub trailing-shut : (w : ℕ) (p : List ℕ) (i : ℕ) (q : Refusal) → openedOf w p i ≡ Slot·Refused q → Trailing·Refused q ≡ trailingOf w p i
 unfolding trailingOf
 trailing-shut w p i q e = sym (shut-judge w p i q e _ _ Trailing·Refused)

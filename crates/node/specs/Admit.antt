@@ -7,13 +7,10 @@ use Rattle.paper.specs.Page.{slotOf, headerOf}
 use Rattle.paper.specs.Verdicts.{slotPayload, within}
 use Rattle.paper.specs.Refusals.{Check, check, judge}
 use Rattle.paper.specs.Calls.{pageLength, widthKnown, rulesHold, entryTests}
-use Rattle.paper.specs.declared.page.Slot.{Slot}
 use Rattle.paper.specs.declared.refusal.Refusal.{Refusal}
 use Rattle.paper.specs.declared.refusal.Refusal.the-variants.{PageLength, KeyLength, HeaderRules, SlotNumber, Payload}
 use Rattle.node.specs.declared.admit.Admitted.{Admitted}
 use Rattle.node.specs.declared.admit.Admitted.the-variants.{Is as Admitted·Is, Refused as Admitted·Refused}
-use Rattle.node.specs.declared.entry.Opened.{Opened}
-use Rattle.node.specs.declared.entry.Opened.the-variants.{Is as Opened·Is, Refused as Opened·Refused}
 use Rattle.node.specs.declared.slots.SlotRead.{SlotRead}
 use Rattle.node.specs.declared.slots.SlotRead.the-variants.{Is as Slot·Is, Refused as Slot·Refused}
 
@@ -48,10 +45,6 @@ unfoldable pub whyNoSlot : SlotRead → Refusal
 whyNoSlot (Slot·Is s) = Payload
 whyNoSlot (Slot·Refused r) = r
 
--- 1, 2, 4, 10, 14, of entry i: its header and its slot
-unfoldable pub openedOf : ℕ → List ℕ → ℕ → Opened
-openedOf w p i = judge (entryTests w p i) (Opened·Is (headerOf p) (slotOf p i)) Opened·Refused
-
-unfoldable pub whyShut : Opened → Refusal
-whyShut (Opened·Is h s) = Payload
-whyShut (Opened·Refused r) = r
+-- 1, 2, 4, 10, 14, of entry i
+unfoldable pub openedOf : ℕ → List ℕ → ℕ → SlotRead
+openedOf w p i = judge (entryTests w p i) (Slot·Is (slotOf p i)) Slot·Refused

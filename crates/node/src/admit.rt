@@ -1,12 +1,12 @@
 // The tests that every read begins with: the page's length, the width, the key's length, the header rules.
 ghost use mathlib.Core.Path.{_≡_};
 ghost use Rattle.paper.specs.Calls.{isWidth};
-ghost use Rattle.node.specs.Admit.{admitOf, admitsOf, refusalOf, whyNot};
+ghost use Rattle.node.specs.Admit.{admitsOf, refusalOf, whyNot};
 use crate::header;
 use paper::page::Header;
 use paper::refusal::Refusal;
 
-// The header of a page that may be read, or why it may not.
+// The header of a page that a call goes on with, or why it does not.
 pub enum Admitted {
     Is(Header),
     Refused(Refusal),
@@ -56,26 +56,6 @@ pub fn why_refused(p: &[u8], width: u8, key_len: usize) -> Refusal
         return Refusal::KeyLength;
     }
     Refusal::HeaderRules
-}
-
-// 1, 2, 3 and 4 in this order, for a call whose key has `key_len` bytes; else the header.
-pub fn admit(p: &[u8], width: u8, key_len: usize) -> Admitted
-    ensures { λ r. ⌜ r ≡ admitOf width (now (p .entry)) «key_len» ⌝ }
-{
-    if p.len() != 16384 {
-        return Admitted::Refused(Refusal::PageLength);
-    }
-    if !known_width(width) {
-        return Admitted::Refused(Refusal::Width);
-    }
-    if 65535 < key_len {
-        return Admitted::Refused(Refusal::KeyLength);
-    }
-    let h = header::read_header(p);
-    if !header::rules_hold(h) {
-        return Admitted::Refused(Refusal::HeaderRules);
-    }
-    Admitted::Is(h)
 }
 
 // The refusal of a page that was not admitted.

@@ -7,13 +7,15 @@ ghost use Rattle.octets.specs.Bytes.{bigBytes, put};
 ghost use Rattle.paper.specs.Lists.{less};
 ghost use Rattle.paper.specs.Page.{prefixOf, suffixOf, bodyBytes};
 ghost use Rattle.paper.specs.Calls.{copyOf, copyBuffer};
+use crate::admit;
 use crate::entry;
-use crate::entry::Opened;
+use crate::slots;
+use crate::slots::SlotRead;
 use keys::order::Order;
 use keys::shared;
+use octets::number;
 use octets::runs;
 use paper::answers::Copied;
-use paper::page::Header;
 use paper::page::Slot;
 use paper::refusal::Refusal;
 
@@ -92,10 +94,10 @@ pub fn suffix_end(s: Slot) -> usize
 }
 
 // The length of a slot's key.
-pub fn key_len(h: Header, s: Slot) -> usize
-    ensures { λ r. ⌜ r ≡ h .«prefix_len» + s .len ⌝ }
+pub fn key_len(prefix_len: u16, s: Slot) -> usize
+    ensures { λ r. ⌜ r ≡ «prefix_len» + s .len ⌝ }
 {
-    (h.prefix_len as usize) + (s.len as usize)
+    (prefix_len as usize) + (s.len as usize)
 }
 
 // Copies the key of entry `i` to the front of `out` and answers its length. Refuses 1, 2, 4, 10, 14, and 15 where `out` is
@@ -104,14 +106,18 @@ pub fn copy_key(p: &[u8], width: u8, i: usize, out: &mut [u8]) -> Copied
     ensures { λ r. ⌜ r ≡ copyOf width (now (p .entry)) i (now (out .entry)) ⌝ }
     ensures { λ _. ⌜ now (out .exit) ≡ copyBuffer width (now (p .entry)) i (now (out .entry)) ⌝ }
 {
-    let o = entry::open_entry(p, width, i);
-    let Opened::Is(h, s) = o else {
-        return Copied::Refused(entry::why_shut(o));
+    if !admit::admits(p, width, 0) {
+        return Copied::Refused(admit::why_refused(p, width, 0));
+    }
+    let v = entry::open_entry(p, width, i);
+    let SlotRead::Is(s) = v else {
+        return Copied::Refused(slots::why_no_slot(v));
     };
-    let n = key_len(h, s);
+    let prefix_len = number::read_u16(p, 46);
+    let n = key_len(prefix_len, s);
     if out.len() < n {
         return Copied::Refused(Refusal::BufferLength);
     }
-    put_key(p, h.prefix_len, s, out);
+    put_key(p, prefix_len, s, out);
     Copied::Bytes(n)
 }

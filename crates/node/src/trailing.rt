@@ -6,9 +6,11 @@ ghost use lib.ListN.{length};
 ghost use Rattle.octets.specs.Bytes.{be};
 ghost use Rattle.paper.specs.Page.{prefixOf, suffixOf, bodyBytes};
 ghost use Rattle.paper.specs.Calls.{trailingOf};
+use crate::admit;
 use crate::entry;
-use crate::entry::Opened;
 use crate::key;
+use crate::slots;
+use crate::slots::SlotRead;
 use octets::number;
 use octets::runs;
 use paper::answers::Trailing;
@@ -32,15 +34,19 @@ fn across(p: &[u8], prefix_len: u16, s: Slot) -> u64
 pub fn trailing_id(p: &[u8], width: u8, i: usize) -> Trailing
     ensures { λ r. ⌜ r ≡ trailingOf width (now (p .entry)) i ⌝ }
 {
-    let o = entry::open_entry(p, width, i);
-    let Opened::Is(h, s) = o else {
-        return Trailing::Refused(entry::why_shut(o));
+    if !admit::admits(p, width, 0) {
+        return Trailing::Refused(admit::why_refused(p, width, 0));
+    }
+    let v = entry::open_entry(p, width, i);
+    let SlotRead::Is(s) = v else {
+        return Trailing::Refused(slots::why_no_slot(v));
     };
-    if key::key_len(h, s) < 8 {
+    let prefix_len = number::read_u16(p, 46);
+    if key::key_len(prefix_len, s) < 8 {
         return Trailing::Refused(Refusal::ShortKey);
     }
     if 8 < s.len {
         return Trailing::Id(number::read_be_u64(p, 88 + key::suffix_end(s)));
     }
-    Trailing::Id(across(p, h.prefix_len, s))
+    Trailing::Id(across(p, prefix_len, s))
 }

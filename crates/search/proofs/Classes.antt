@@ -9,8 +9,9 @@ use borrow.Author.Tests.{eq-eqb, ne-eqb}
 use lib.Dec.{eqb}
 use lib.ListN.{length, take, drop, length-drop, drop-of-length-le}
 use lib.Seq.{take-all, drop-length}
-use Rattle.octets.specs.Bytes.{le}
-use Rattle.keys.specs.Keys.{order, sameList}
+use Rattle.octets.specs.Bytes.{le, part}
+use Rattle.octets.proofs.Part.{part-none}
+use Rattle.keys.specs.Keys.{begins, order, sameList}
 use Rattle.keys.specs.declared.order.Order.{Order}
 use Rattle.keys.specs.declared.order.Order.the-variants.{Below, Same, Above}
 use Rattle.keys.proofs.Orders.{order-same, same-order, sameList-eq, eq-sameList}
@@ -18,6 +19,7 @@ use Rattle.paper.specs.Page.{prefixOf, frameOf, headerOf}
 use Rattle.paper.specs.Searches.{classOf, probeSuffix}
 use Rattle.paper.specs.Calls.{hasPrefix}
 use Rattle.paper.specs.declared.page.Header.{Header}
+use Rattle.node.proofs.Spelling.{length-prefixOf}
 use Rattle.search.specs.Probe.{classBy, classNumber}
 
 -- ---- the class
@@ -50,6 +52,16 @@ same-class a b = go (order a b) refl
     go Below e = unfold classNumber in clash Below (λ q. let z : _≡_ {A = ℕ} 0 1 = cc in omega arith) e
     go Same e = unfold classNumber in eq-sameList a b (order-same a b e)
     go Above e = unfold classNumber in clash Above (λ q. let z : _≡_ {A = ℕ} 0 1 = cc in omega arith) e
+
+-- the probe k begins with the prefix l that was lent exactly when its class is the middle one
+pub within-is : (p k l : List ℕ) (n : ℕ) → 16384 ≤ length p → n ≤ 16256 → l ≡ prefixOf p n → begins k l ≡ eqb (classNumber (classBy p n k)) 1
+unfolding begins classBy
+within-is p k l n size most e = rw (e, length-prefixOf p n size most) (same-class (take n k) (prefixOf p n))
+
+-- and with a prefix of no bytes every probe does
+pub within-all : (p k : List ℕ) (n : ℕ) → n ≡ 0 → true ≡ eqb (classNumber (classBy p n k)) 1
+unfolding classBy prefixOf
+within-all p k n e = rw e (sym (eq-sameList (take 0 k) (part 0 p 48) (sym (part-none p 48 0 refl))) ∙ same-class (take 0 k) (part 0 p 48))
 
 -- a key has the prefix exactly when its class is the middle one
 pub prefix-class : (p k : List ℕ) → hasPrefix (frameOf p) k ≡ eqb (classNumber (classOf (frameOf p) k)) 1

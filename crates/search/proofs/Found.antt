@@ -1,12 +1,12 @@
 -- Find by a header is the paper's: a probe has the prefix exactly when its class is the middle one, and the slot tested meets the probe's suffix.
 -- Assumes nothing.
 use mathlib.Core.Path.{_≡_, refl, sym, ap, _∙_}
-use mathlib.Core.Bool.{true, false}
+use mathlib.Core.Bool.{Bool, true, false}
 use mathlib.Core.List.{List, [], _∷_}
 use Prim.Native.Nat.{ℕ, _≤_, _<_}
 use native.Mathlib.Decide.{decLt}
 use native.Mathlib.Omega.{arith}
-use borrow.Author.Tests.{eq-eqb, ne-eqb, lt-ltb, le-ltb}
+use borrow.Author.Tests.{lt-ltb, le-ltb}
 use lib.Dec.{ltb, eqb}
 use lib.ListN.{length}
 use Rattle.keys.specs.Choice.{pick}
@@ -34,16 +34,16 @@ use Rattle.search.proofs.Classes.{class-is, prefix-class}
 use Rattle.search.proofs.Meets.{alone-there}
 use Rattle.search.proofs.Bounded.{met, searched-is}
 
--- ---- by class; c is the class as a number
-module _ (w : ℕ) (p : List ℕ) (h : Header) (k : List ℕ) (c : ℕ) (e : c ≡ classNumber (classBy p (h .«prefix_len») k)) where
-  pub find-outside : (c ≡ 1 → ⊥) → findWith w p h k ≡ Found·Refused Prefix
+-- ---- by the prefix; b says whether the probe has it
+module _ (w : ℕ) (p : List ℕ) (h : Header) (k : List ℕ) (b : Bool) (e : b ≡ eqb (classNumber (classBy p (h .«prefix_len») k)) 1) where
+  pub find-outside : b ≡ false → findWith w p h k ≡ Found·Refused Prefix
   unfolding findWith
-  find-outside f = let t : eqb (classNumber (classBy p (h .«prefix_len») k)) 1 ≡ false = rw (← e) (ne-eqb c 1 f) in rw t
+  find-outside f = rw (← e, f)
 
   -- x is the probe's suffix
-  pub find-within : (x : List ℕ) → c ≡ 1 → x ≡ probeSuffix (frameOf p) k → findWith w p h k ≡ findIn w p h x
+  pub find-within : (x : List ℕ) → b ≡ true → x ≡ probeSuffix (frameOf p) k → findWith w p h k ≡ findIn w p h x
   unfolding findWith
-  find-within x f d = let t : eqb (classNumber (classBy p (h .«prefix_len») k)) 1 ≡ true = rw (← e) (eq-eqb c 1 f) in rw (t, ← d)
+  find-within x f d = rw (← e, f, ← d)
 
 -- ---- by what the bound of the suffix x says
 module _ (w : ℕ) (p : List ℕ) (h : Header) (x : List ℕ) where

@@ -25,7 +25,7 @@ fn find_with(p: &[u8], width: u8, key: &[u8]) -> Found
     requires { ⌜ (16384 ≤ length (now p)) × (8 * headerOf (now p) .count ≤ 16256) × (headerOf (now p) .«prefix_len» ≤ 16256) ⌝ }
     ensures { λ r. ⌜ r ≡ findWith width (now (p .entry)) (headerOf (now (p .entry))) (now (key .entry)) ⌝ }
 {
-    if probe::class(p, number::read_u16(p, 46), key) != 1 {
+    if !probe::within(p, number::read_u16(p, 46), key) {
         return Found::Refused(Refusal::Prefix);
     }
     find_at(p, width, probe::suffix(p, key))

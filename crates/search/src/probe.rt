@@ -1,6 +1,7 @@
 // A probe against the page's prefix.
 ghost use mathlib.Core.Path.{_≡_};
 ghost use Prim.Native.Nat.{_≤_};
+ghost use lib.Dec.{eqb};
 ghost use lib.ListN.{length};
 ghost use Rattle.paper.specs.Page.{frameOf};
 ghost use Rattle.paper.specs.Searches.{probeSuffix};
@@ -21,6 +22,17 @@ pub fn class(p: &[u8], prefix_len: u16, probe: &[u8]) -> u8
         return number_of(shared::order_by_shared(probe, prefix));
     }
     number_of(shared::order_by_shared(&probe[..n], prefix))
+}
+
+// Whether the probe begins with the page's prefix: class 1 and no other.
+pub fn within(p: &[u8], prefix_len: u16, probe: &[u8]) -> bool
+    requires { ⌜ (16384 ≤ length (now p)) × («prefix_len» ≤ 16256) ⌝ }
+    ensures { λ r. ⌜ r ≡ eqb (classNumber (classBy (now (p .entry)) «prefix_len» (now (probe .entry)))) 1 ⌝ }
+{
+    if prefix_len == 0 {
+        return true;
+    }
+    shared::begins_with(probe, key::prefix(p, prefix_len))
 }
 
 // The class as a number.

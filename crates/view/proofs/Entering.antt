@@ -11,13 +11,12 @@ use Rattle.paper.specs.Page.{slotOf, valueAt, prefixOf, suffixOf}
 use Rattle.paper.specs.Refusals.{Check, judge}
 use Rattle.paper.specs.Calls.{keyAt, copyChecks, copyOf, copyBuffer}
 use Rattle.paper.specs.declared.page.Slot.{Slot}
-use Rattle.paper.specs.declared.page.Header.{Header}
 use Rattle.paper.specs.declared.refusal.Refusal.{Refusal}
 use Rattle.paper.specs.declared.refusal.Refusal.the-variants.{BufferLength}
 use Rattle.paper.specs.declared.answers.Copied.{Copied}
 use Rattle.paper.specs.declared.answers.Copied.the-variants.{Bytes as Copied·Bytes, Refused as Copied·Refused}
 use Rattle.node.specs.Admit.{openedOf}
-use Rattle.node.specs.declared.entry.Opened.the-variants.{Is as Opened·Is, Refused as Opened·Refused}
+use Rattle.node.specs.declared.slots.SlotRead.the-variants.{Is as Slot·Is, Refused as Slot·Refused}
 use Rattle.node.proofs.Entries.{entered, width-whole}
 use Rattle.node.proofs.Copies.{copy-short, copy-done, copy-shut}
 use Rattle.view.specs.Entries.{shownEntry}
@@ -51,19 +50,19 @@ module _ (w : ℕ) (p : List ℕ) (i : ℕ) (out : List ℕ) where
   alike c b e = (ap (withValue held) (e .0) ∙ sym by-copy, e .1)
 
   -- ---- the ways out
-  pub shown-shut : (q : Refusal) → openedOf w p i ≡ Opened·Refused q → (Shown·Refused q ≡ shownEntry w p i out) × (out ≡ copyBuffer w p i out)
+  pub shown-shut : (q : Refusal) → openedOf w p i ≡ Slot·Refused q → (Shown·Refused q ≡ shownEntry w p i out) × (out ≡ copyBuffer w p i out)
   shown-shut q e = alike (Copied·Refused q) out (copy-shut w p i out q e)
 
-  module _ (h : Header) (s : Slot) (e : openedOf w p i ≡ Opened·Is h s) (n : ℕ) (k : n ≡ h .«prefix_len» + s .len) where
+  module _ (s : Slot) (e : openedOf w p i ≡ Slot·Is s) (m : ℕ) (x : m ≡ le 2 p 46) (n : ℕ) (k : n ≡ m + s .len) where
     pub shown-short : length out < n → (Shown·Refused BufferLength ≡ shownEntry w p i out) × (out ≡ copyBuffer w p i out)
-    shown-short l = alike (Copied·Refused BufferLength) out (copy-short w p i h s e out n k l)
+    shown-short l = alike (Copied·Refused BufferLength) out (copy-short w p i s e m x out n k l)
 
     -- the value was read at its place, as wide as the width says
     value-is : (at v : ℕ) → at ≡ valueAt s → v ≡ le (min w 8) p at → v ≡ held
-    value-is at v f g = let E = entered w p i h s e in let whole = width-whole w (E .width) in rw (g, whole, f, E .slot)
+    value-is at v f g = let E = entered w p i s e in let whole = width-whole w (E .width) in rw (g, whole, f, E .slot)
 
     pub shown-done : n ≤ length out → (at v : ℕ) → at ≡ valueAt s → v ≡ le (min w 8) p at
-        → (Shown·Is v n ≡ shownEntry w p i out) × (put out 0 (prefixOf p (h .«prefix_len») ++ suffixOf p s) ≡ copyBuffer w p i out)
+        → (Shown·Is v n ≡ shownEntry w p i out) × (put out 0 (prefixOf p m ++ suffixOf p s) ≡ copyBuffer w p i out)
     shown-done l at v f g =
-        let both = alike (Copied·Bytes n) (put out 0 (prefixOf p (h .«prefix_len») ++ suffixOf p s)) (copy-done w p i h s e out n k l) in
+        let both = alike (Copied·Bytes n) (put out 0 (prefixOf p m ++ suffixOf p s)) (copy-done w p i s e m x out n k l) in
         (ap (λ (x : ℕ). Shown·Is x n) (value-is at v f g) ∙ both .0, both .1)

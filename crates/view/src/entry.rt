@@ -3,9 +3,12 @@ ghost use mathlib.Core.Path.{_≡_};
 ghost use Rattle.paper.specs.Calls.{copyBuffer};
 ghost use Rattle.view.specs.Entries.{shownEntry};
 use crate::plain;
+use node::admit;
 use node::entry;
-use node::entry::Opened;
 use node::key;
+use node::slots;
+use node::slots::SlotRead;
+use octets::number;
 use octets::value;
 use paper::refusal::Refusal;
 
@@ -21,15 +24,19 @@ pub fn entry(p: &[u8], width: u8, i: usize, out: &mut [u8]) -> EntryShown
     ensures { λ r. ⌜ r ≡ shownEntry width (now (p .entry)) i (now (out .entry)) ⌝ }
     ensures { λ _. ⌜ now (out .exit) ≡ copyBuffer width (now (p .entry)) i (now (out .entry)) ⌝ }
 {
-    let o = entry::open_entry(p, width, i);
-    let Opened::Is(h, s) = o else {
-        return EntryShown::Refused(entry::why_shut(o));
+    if !admit::admits(p, width, 0) {
+        return EntryShown::Refused(admit::why_refused(p, width, 0));
+    }
+    let v = entry::open_entry(p, width, i);
+    let SlotRead::Is(s) = v else {
+        return EntryShown::Refused(slots::why_no_slot(v));
     };
-    let n = key::key_len(h, s);
+    let prefix_len = number::read_u16(p, 46);
+    let n = key::key_len(prefix_len, s);
     if out.len() < n {
         return EntryShown::Refused(Refusal::BufferLength);
     }
-    let v = value::read_value(p, entry::value_at(s), width as usize);
-    plain::write_key(p, h.prefix_len, s, out);
-    EntryShown::Is(v, n)
+    let value = value::read_value(p, entry::value_at(s), width as usize);
+    plain::write_key(p, prefix_len, s, out);
+    EntryShown::Is(value, n)
 }

@@ -1,8 +1,9 @@
 -- The loop keeps that the first i bytes are common; a block that agrees is 32 more.
+use mathlib.Core.Path.{sym, _∙_}
 use Prim.Native.Nat.{_-_, _≤_}
 use native.Mathlib.Omega.{arith}
 use borrow.Author.Needs.{needs}
-use borrow.Author.Tests.{not-false}
+use borrow.Author.Tests.{not-false, leb-true}
 use Rattle.keys.specs.Keys.{common}
 use Rattle.keys.proofs.walk.blocks.Statement.{statement}
 use Rattle.keys.proofs.walk.blocks.Tie as tie
@@ -32,7 +33,7 @@ loop-less : tie.Need-loop-less Inv-loop μ-loop
 loop-less c = search needs
 
 loop-again : tie.Need-loop-again Inv-loop μ-loop
-loop-again c = (omega arith, c .before .same-32 .ensures (not-false _ (c .if1 .left)) (c .before .before .before .loop .inv .1))
+loop-again c = (omega arith, leb-true _ _ (sym (c .before .same-32 .ensures) ∙ not-false _ (c .if1 .left)))
 
 returns-2 : tie.Need-returns-2 Inv-loop μ-loop
 returns-2 c = search needs

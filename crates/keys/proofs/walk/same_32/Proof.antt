@@ -1,10 +1,9 @@
--- Where the four tests are all true, each pair of words is eight bytes more in common (`block-on`).
+-- Each pair of words tests eight bytes more (`block-test`), and tests joined test up to the last (`both-test`).
 use Prim.Native.Nat.{_+_}
 use native.Mathlib.Omega.{arith}
 use borrow.Author.Needs.{needs}
-use borrow.Author.Tests.{eqb-true}
-use Rattle.keys.proofs.Numbers.{both-true}
-use Rattle.keys.proofs.Words.{block-on}
+use Rattle.keys.proofs.Words.{block-test, both-test}
+use Rattle.keys.specs.Keys.{common}
 use Rattle.octets.specs.Bytes.{IsBytes}
 use Rattle.keys.proofs.walk.same_32.Statement.{statement}
 use Rattle.keys.proofs.walk.same_32.Tie as tie
@@ -53,22 +52,24 @@ read-u64-requires-8 c κs = search needs
 
 returns : tie.Need-returns
 returns c =
-    let kb = c .before .before .before .before .before .before .before .before in
+    let fourth = c .before .before in
+    let third = fourth .before .before in
+    let second = third .before .before in
+    let kb = second .before .before in
     let ka = kb .before in
     let start = ka .before in
     let a = start .args .a .now in
     let b = start .args .b .now in
+    let i = start .args .i in
     let ha : IsBytes a = λ k. ka .shared-slice-known .given k .fits in
     let hb : IsBytes b = λ k. kb .shared-slice-known2 .given k .fits in
-    λ r h.
-    let w = both-true _ _ r in
-    let x = both-true _ _ (w .0) in
-    let y = both-true _ _ (w .1) in
-    let one = block-on a b ha hb 8 (start .args .i) _ _ (c .before .before .before .before .before .before .before .read-u64 .ensures) (c .before .before .before .before .before .before .read-u642 .ensures) (eqb-true _ _ (x .0)) h (omega arith) (omega arith) in
-    let two = block-on a b ha hb 8 (start .args .i + 8) _ _ (c .before .before .before .before .before .read-u643 .ensures) (c .before .before .before .before .read-u644 .ensures) (eqb-true _ _ (x .1)) one (omega arith) (omega arith) in
-    let three = block-on a b ha hb 8 (start .args .i + 16) _ _ (c .before .before .before .read-u645 .ensures) (c .before .before .read-u646 .ensures) (eqb-true _ _ (y .0)) (omega arith) (omega arith) (omega arith) in
-    let four = block-on a b ha hb 8 (start .args .i + 24) _ _ (c .before .read-u647 .ensures) (c .read-u648 .ensures) (eqb-true _ _ (y .1)) (omega arith) (omega arith) (omega arith) in
-    omega arith
+    both-test _ _ (i + 16) (i + 32) (common a b) (omega arith)
+    (both-test _ _ (i + 8) (i + 16) (common a b) (omega arith)
+    (block-test a b ha hb 8 i _ _ (i + 8) (omega arith) (second .before .read-u64 .ensures) (second .read-u642 .ensures) (start .pre .2) (omega arith) (omega arith))
+    (λ l. block-test a b ha hb 8 (i + 8) _ _ (i + 16) (omega arith) (third .before .read-u643 .ensures) (third .read-u644 .ensures) l (omega arith) (omega arith)))
+    (λ l. both-test _ _ (i + 24) (i + 32) (common a b) (omega arith)
+    (block-test a b ha hb 8 (i + 16) _ _ (i + 24) (omega arith) (fourth .before .read-u645 .ensures) (fourth .read-u646 .ensures) l (omega arith) (omega arith))
+    (λ m. block-test a b ha hb 8 (i + 24) _ _ (i + 32) (omega arith) (c .before .read-u647 .ensures) (c .read-u648 .ensures) m (omega arith) (omega arith)))
 
 pub same-32-spec : {M : Type 1} → statement M
 same-32-spec =
