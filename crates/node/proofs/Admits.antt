@@ -22,7 +22,7 @@ use Rattle.paper.proofs.Lists.{both-parts}
 use Rattle.paper.proofs.Fit.{Rules, rules}
 use Rattle.paper.proofs.Sorted.{never}
 use Rattle.paper.proofs.Holding.{Hold, judge-hold, hold-judge, refused-judge}
-use Rattle.node.specs.Admit.{admitChecks, admitOf, admitsOf, refusalOf, slotChecks, slotReadOf}
+use Rattle.node.specs.Admit.{admitChecks, admitOf, admitsOf, whyRefused, slotChecks, slotReadOf}
 use Rattle.node.specs.declared.admit.Admitted.the-variants.{Is as Admitted·Is, Refused as Admitted·Refused}
 use Rattle.node.specs.declared.slots.SlotRead.the-variants.{Is as Slot·Is, Refused as Slot·Refused}
 
@@ -112,8 +112,8 @@ module _ (w : ℕ) (p : List ℕ) (n : ℕ) where
   unfolding admitsOf admitOf
   admits-is e = judge-hold (admitChecks w p n) (Admitted·Is (headerOf p)) Admitted·Refused (hold-judge (admitChecks w p n) true true (λ r. false) (λ q k. never true refl (sym k)) e)
 
-  pub admits-not : admitsOf w p n ≡ false → admitOf w p n ≡ Admitted·Refused (refusalOf w p n)
-  unfolding admitsOf admitOf refusalOf
+  pub admits-not : admitsOf w p n ≡ false → admitOf w p n ≡ Admitted·Refused (whyRefused w p n)
+  unfolding admitsOf admitOf whyRefused
   admits-not e = last-of (eqb (length p) 16384) (isWidth w) (leb n 65535) (headerRules (frameOf p) (numbersOf p)) _ _ _ _ (Admitted·Is (headerOf p)) Admitted·Refused e
 
   -- what is read of the header then lies within the page, and so do the slots by the number that was read

@@ -22,7 +22,7 @@ use Rattle.paper.proofs.Lists.{both-parts}
 use Rattle.paper.proofs.Sorted.{never}
 use Rattle.paper.proofs.Fit.{Lie, within-fact, Rules, rules}
 use Rattle.paper.proofs.Holding.{Hold, judge-hold, hold-judge, refused-judge, judge-append}
-use Rattle.node.specs.Admit.{admitChecks, admitsOf, refusalOf, slotChecks, slotReadOf, openedOf}
+use Rattle.node.specs.Admit.{admitChecks, admitsOf, whyRefused, slotChecks, slotReadOf, openedOf}
 use Rattle.node.specs.declared.slots.SlotRead.the-variants.{Is as Slot·Is, Refused as Slot·Refused}
 use Rattle.node.proofs.Admits.{admitted-judge, refused-admit, admits-is, admits-not, slot-not, slot-refused-is}
 
@@ -44,9 +44,9 @@ module _ (w : ℕ) (p : List ℕ) (i : ℕ) where
   split a r = refl
 
   -- ---- the page's tests alone, then the slot by numbers that were read
-  pub open-refused : admitsOf w p 0 ≡ false → openedOf w p i ≡ Slot·Refused (refusalOf w p 0)
+  pub open-refused : admitsOf w p 0 ≡ false → openedOf w p i ≡ Slot·Refused (whyRefused w p 0)
   unfolding openedOf
-  open-refused e = split (Slot·Is (slotOf p i)) Slot·Refused ∙ refused-admit w p 0 (refusalOf w p 0) (admits-not w p 0 e) _ Slot·Refused
+  open-refused e = split (Slot·Is (slotOf p i)) Slot·Refused ∙ refused-admit w p 0 (whyRefused w p 0) (admits-not w p 0 e) _ Slot·Refused
 
   pub open-is : (count end : ℕ) → admitsOf w p 0 ≡ true → count ≡ le 2 p 2 → end ≡ le 2 p 6 → slotReadOf w p count end i ≡ openedOf w p i
   unfolding openedOf slotReadOf numbersOf

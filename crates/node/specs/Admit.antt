@@ -26,8 +26,8 @@ unfoldable pub admitsOf : ℕ → List ℕ → ℕ → Bool
 admitsOf w p n = judge (admitChecks w p n) true (λ r. false)
 
 -- and why not: the first of 1, 2, 3 that is given, else 4
-unfoldable pub refusalOf : ℕ → List ℕ → ℕ → Refusal
-refusalOf w p n = judge (pageLength p ∷ widthKnown w ∷ check (leb n 65535) KeyLength ∷ []) HeaderRules (λ r. r)
+unfoldable pub whyRefused : ℕ → List ℕ → ℕ → Refusal
+whyRefused w p n = judge (pageLength p ∷ widthKnown w ∷ check (leb n 65535) KeyLength ∷ []) HeaderRules (λ r. r)
 
 -- why a page was not admitted
 unfoldable pub whyNot : Admitted → Refusal

@@ -1,7 +1,7 @@
 // The tests that every read begins with: the page's length, the width, the key's length, the header rules.
 ghost use mathlib.Core.Path.{_≡_};
 ghost use Rattle.paper.specs.Calls.{isWidth};
-ghost use Rattle.node.specs.Admit.{admitsOf, refusalOf, whyNot};
+ghost use Rattle.node.specs.Admit.{admitsOf, whyRefused, whyNot};
 use crate::header;
 use paper::page::Header;
 use paper::refusal::Refusal;
@@ -44,7 +44,7 @@ pub fn admits(p: &[u8], width: u8, key_len: usize) -> bool
 
 // Why a page may not be read: the first of 1, 2 and 3 that is given, else 4.
 pub fn why_refused(p: &[u8], width: u8, key_len: usize) -> Refusal
-    ensures { λ r. ⌜ r ≡ refusalOf width (now (p .entry)) «key_len» ⌝ }
+    ensures { λ r. ⌜ r ≡ whyRefused width (now (p .entry)) «key_len» ⌝ }
 {
     if p.len() != 16384 {
         return Refusal::PageLength;

@@ -3,10 +3,10 @@
 use mathlib.Core.Path.{_≡_, refl, sym, ap, _∙_}
 use mathlib.Core.Bool.{Bool, true, false}
 use mathlib.Core.List.{List, [], _∷_}
-use Prim.Native.Nat.{ℕ, _≤_, _<_}
+use Prim.Native.Nat.{ℕ, _<_}
 use native.Mathlib.Decide.{decLt}
 use native.Mathlib.Omega.{arith}
-use borrow.Author.Tests.{lt-ltb, le-ltb}
+use borrow.Author.Tests.{le-ltb}
 use lib.Dec.{ltb, eqb}
 use lib.ListN.{length}
 use Rattle.keys.specs.Choice.{pick}
@@ -44,20 +44,6 @@ module _ (w : ℕ) (p : List ℕ) (h : Header) (k : List ℕ) (b : Bool) (e : b 
   pub find-within : (x : List ℕ) → b ≡ true → x ≡ probeSuffix (frameOf p) k → findWith w p h k ≡ findIn w p h x
   unfolding findWith
   find-within x f d = rw (← e, f, ← d)
-
--- ---- by what the bound of the suffix x says
-module _ (w : ℕ) (p : List ℕ) (h : Header) (x : List ℕ) where
-  pub find-no-bound : (q : Refusal) → searched false w p h x ≡ Bound·Refused q → findIn w p h x ≡ Found·Refused q
-  unfolding findIn testedAt
-  find-no-bound q g = rw g
-
-  pub find-none : (i : ℕ) → searched false w p h x ≡ Bound·At i → h .count ≤ i → findIn w p h x ≡ Smaller i
-  unfolding findIn testedAt
-  find-none i g l = rw (g, le-ltb i (h .count) l)
-
-  pub find-tested : (i : ℕ) → searched false w p h x ≡ Bound·At i → i < h .count → findIn w p h x ≡ tested i (metAlone w p (h .count) (h .end) x i)
-  unfolding findIn testedAt
-  find-tested i g l = rw (g, lt-ltb i (h .count) l)
 
 -- ---- the paper's find
 module _ (w : ℕ) (p k : List ℕ) where

@@ -11,7 +11,6 @@ use Rattle.keys.specs.declared.order.Order.{Order}
 use Rattle.keys.specs.declared.order.Order.the-variants.{Same, Above}
 use Rattle.paper.specs.Page.{headerOf}
 use Rattle.paper.specs.Searches.{tested}
-use Rattle.paper.specs.declared.page.Header.{Header}
 use Rattle.paper.specs.declared.refusal.Refusal.{Refusal}
 use Rattle.paper.specs.declared.answers.Met.the-variants.{Is as Met·Is}
 use Rattle.paper.specs.declared.answers.Bound.{Bound}
@@ -21,7 +20,7 @@ use Rattle.paper.specs.declared.answers.Found.the-variants.{Equal, Smaller, Ref
 use Rattle.paper.proofs.Sorted.{never}
 use Rattle.search.specs.Slot.{metAt, metAlone, halved, Ends}
 use Rattle.search.specs.Bounds.{windowOf, searched}
-use Rattle.search.specs.Finds.{testedAt, boundOfFound, Told, Goes, Seeks}
+use Rattle.search.specs.Finds.{testedAt, boundOfFound, Told, Seeks}
 use Rattle.search.specs.declared.seek.Window.{Window}
 use Rattle.search.specs.declared.halve.Halved.{Halved}
 use Rattle.search.specs.declared.halve.Halved.the-variants.{Same as Halved·Same, Above as Halved·Above, Unmet as Halved·Unmet, Refused as Halved·Refused}
@@ -30,15 +29,15 @@ use Rattle.search.proofs.Bounded.{window-lies, searched-by}
 
 module _ (t : Bool) (w : ℕ) (p x : List ℕ) where
   -- ---- a bound that was not met
-  pub goes-untested : (i : ℕ) → t ≡ false → Goes t w p x i (Smaller i)
+  pub goes-untested : (i : ℕ) → t ≡ false → Told t w p x (Bound·At i) (Smaller i)
   unfolding boundOfFound
   goes-untested i e = (λ _. refl, λ k. never t k e)
 
-  pub goes-none : (i c : ℕ) → c ≡ headerOf p .count → c ≤ i → Goes t w p x i (Smaller i)
+  pub goes-none : (i c : ℕ) → c ≡ headerOf p .count → c ≤ i → Told t w p x (Bound·At i) (Smaller i)
   unfolding boundOfFound testedAt
   goes-none i c e l = (λ _. refl, λ _. let f : headerOf p .count ≤ i = rw (← e) l in rw (le-ltb i (headerOf p .count) f))
 
-  pub goes-tested : (i c end : ℕ) (r : Found) → t ≡ true → c ≡ headerOf p .count → end ≡ headerOf p .end → i < c → r ≡ tested i (metAlone w p c end x i) → Goes t w p x i r
+  pub goes-tested : (i c end : ℕ) (r : Found) → t ≡ true → c ≡ headerOf p .count → end ≡ headerOf p .end → i < c → r ≡ tested i (metAlone w p c end x i) → Told t w p x (Bound·At i) r
   unfolding testedAt
   goes-tested i c end r k e f l g = (λ z. never t k z, λ _. let m : i < headerOf p .count = rw (← e) l in rw (lt-ltb i (headerOf p .count) m, ← e, ← f) g)
 
@@ -79,7 +78,7 @@ module _ (t : Bool) (w : ℕ) (p x : List ℕ) where
         let s = is (Bound·At i) (N .0) in
         (λ _. sym s, λ _. rw s (sym (met-tested Above i (there i (N .1)) (rw (← d) (N .2)))))
 
-    pub seeks-unmet : (i : ℕ) (f : Found) → r ≡ Halved·Unmet i → Goes t w p x i f → Seeks u t w p x f
+    pub seeks-unmet : (i : ℕ) (f : Found) → r ≡ Halved·Unmet i → Told t w p x (Bound·At i) f → Seeks u t w p x f
     seeks-unmet i f k g = let s = is (Bound·At i) (ended (Halved·Unmet i) k) in rw s g
 
     pub seeks-refused : (q : Refusal) → r ≡ Halved·Refused q → Seeks u t w p x (Found·Refused q)

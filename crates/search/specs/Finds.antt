@@ -32,10 +32,6 @@ boundOfFound (Found·Refused r) = Bound·Refused r
 abbrev pub Told : Bool → ℕ → List ℕ → List ℕ → Bound → Found → Type 0
 Told t w p s b r = (t ≡ false → boundOfFound r ≡ b) × (t ≡ true → r ≡ testedAt w p (headerOf p) s b)
 
--- of a bound that halving did not meet
-abbrev pub Goes : Bool → ℕ → List ℕ → List ℕ → ℕ → Found → Type 0
-Goes t w p s i r = Told t w p s (Bound·At i) r
-
 -- of the suffix s
 abbrev pub Seeks : Bool → Bool → ℕ → List ℕ → List ℕ → Found → Type 0
 Seeks u t w p s r = Told t w p s (searched u w p (headerOf p) s) r

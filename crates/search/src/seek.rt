@@ -4,9 +4,10 @@ ghost use Prim.Native.Nat.{_*_, _≤_};
 ghost use lib.ListN.{length};
 ghost use Rattle.paper.specs.Page.{headerOf};
 ghost use Rattle.paper.specs.Searches.{tested};
+ghost use Rattle.paper.specs.declared.answers.Bound.the-variants.{At as Bound·At};
 ghost use Rattle.search.specs.Slot.{metAlone};
 ghost use Rattle.search.specs.Bounds.{windowOf};
-ghost use Rattle.search.specs.Finds.{Goes, Seeks};
+ghost use Rattle.search.specs.Finds.{Told, Seeks};
 use crate::halve;
 use crate::halve::Halved;
 use crate::slot;
@@ -25,7 +26,7 @@ pub struct Window {
 }
 
 // All slots, or those that the hints in use leave for a head.
-pub fn slots_to_search(p: &[u8], flag: u8, count: u16, head: u32) -> Window
+fn slots_to_search(p: &[u8], flag: u8, count: u16, head: u32) -> Window
     requires { ⌜ 96 ≤ length (now p) ⌝ }
     ensures { λ r. ⌜ r ≡ windowOf (now (p .entry)) flag count head ⌝ }
 {
@@ -61,7 +62,7 @@ fn test_slot(p: &[u8], count: u16, end: u16, width: u8, i: usize, suffix: &[u8])
 // The bound at `i`, which was not met: where it is to be tested and a slot stands there, it is tested now.
 fn unmet(p: &[u8], width: u8, i: usize, suffix: &[u8], test: bool) -> Found
     requires { ⌜ (16384 ≤ length (now p)) × (8 * headerOf (now p) .count ≤ 16256) ⌝ }
-    ensures { λ r. ⌜ Goes test width (now (p .entry)) (now (suffix .entry)) i r ⌝ }
+    ensures { λ r. ⌜ Told test width (now (p .entry)) (now (suffix .entry)) (Bound·At i) r ⌝ }
 {
     let count = number::read_u16(p, 2);
     if !test {

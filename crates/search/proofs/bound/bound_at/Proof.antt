@@ -1,5 +1,4 @@
 -- A search's end told as a bound.
-use mathlib.Core.Path.{_∙_}
 use Rattle.search.specs.Finds.{boundOfFound}
 use Rattle.search.proofs.Seeking.{as-bound}
 use borrow.Author.Needs.{needs}

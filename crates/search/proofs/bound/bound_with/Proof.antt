@@ -1,7 +1,6 @@
 -- Each class is a case of `boundBy`.
 use mathlib.Core.Path.{sym, _∙_, ap}
 use Rattle.paper.specs.declared.answers.Bound.the-variants.{At as Bound·At}
-use Rattle.search.specs.Probe.{classBy, classNumber}
 use Rattle.search.proofs.Asked.{count-read, prefix-read}
 use Rattle.search.proofs.Bounded.{bound-before, bound-after, bound-within}
 use borrow.Author.Needs.{needs}

@@ -1,4 +1,4 @@
--- Each way out is a case of `Goes`.
+-- Each way out is a case of `Told`.
 use borrow.Author.Tests.{not-true, not-false}
 use Rattle.search.proofs.Asked.{count-read, end-read}
 use Rattle.search.proofs.Seeking.{goes-untested, goes-none, goes-tested}
