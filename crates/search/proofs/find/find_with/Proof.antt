@@ -23,7 +23,7 @@ find-at-requires : tie.Need-find-at-requires
 find-at-requires c κs = search needs
 
 returns-2 : tie.Need-returns-2
-returns-2 c = 
+returns-2 c =
     let cut = c .before in
     let test = cut .before .before in
     c .find-at .ensures

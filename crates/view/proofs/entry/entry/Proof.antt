@@ -18,7 +18,7 @@ why-refused-requires : tie.Need-why-refused-requires
 why-refused-requires c κs = search needs
 
 returns : tie.Need-returns
-returns c = 
+returns c =
     rw (c .why-refused .ensures) (shown-shut _ _ _ _ _ (open-refused _ _ _ (sym (c .before .before .admits .ensures) ∙ not-true _ (c .before .if1 .taken))))
 
 open-entry-requires : tie.Need-open-entry-requires
@@ -35,12 +35,12 @@ why-no-slot-requires c κs = search needs
 
 returns-2 : tie.Need-returns-2
 unfolding whyNoSlot
-returns-2 c = 
+returns-2 c =
     let told = c .before .enum-told .given .1 in
     rw (c .why-no-slot .ensures, told) (shown-shut _ _ _ _ _ (sym (c .before .before .before .open-entry .ensures) ∙ told))
 
 read-u16-requires : tie.Need-read-u16-requires
-read-u16-requires c κs = 
+read-u16-requires c κs =
     let opened = c .before in
     let l = size-least _ _ _ _ (sym (opened .before .before .open-entry .ensures) ∙ opened .v .given .1) in
     omega arith
@@ -49,7 +49,7 @@ key-len-requires : tie.Need-key-len-requires
 key-len-requires c κs = search needs
 
 returns-3 : tie.Need-returns-3
-returns-3 c = 
+returns-3 c =
     let read = c .before .before in
     let opened = read .before .before in
     shown-short _ _ _ _ _ (sym (opened .before .before .open-entry .ensures) ∙ opened .v .given .1) _ (read .read-u16 .ensures) _ (c .before .key-len .ensures) (c .if2 .taken)
@@ -58,12 +58,12 @@ value-at-requires : tie.Need-value-at-requires
 value-at-requires c κs = search needs
 
 read-value-requires : tie.Need-read-value-requires
-read-value-requires c κs = 
+read-value-requires c κs =
     let opened = c .before .before .before .before .before in
     value-within _ _ _ _ (sym (opened .before .before .open-entry .ensures) ∙ opened .v .given .1) _ (c .value-at .ensures)
 
 write-key-requires : tie.Need-write-key-requires
-write-key-requires c κs = 
+write-key-requires c κs =
     let sized = c .before .before .before .before in
     let read = sized .before in
     let opened = read .before .before in
@@ -78,7 +78,7 @@ same-length : tie.Need-same-length
 same-length c = search needs
 
 returns-4 : tie.Need-returns-4
-returns-4 c = 
+returns-4 c =
     let value = c .before .before .before .before in
     let sized = value .before .before .before in
     let read = sized .before in
