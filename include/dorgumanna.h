@@ -60,7 +60,8 @@ static inline const char *dorgumanna_refusal_text(uint8_t number)
     case DORGUMANNA_SLOT_NUMBER: return "slot number not below count; run past the source's count";
     case DORGUMANNA_PRESENT: return "key already there";
     case DORGUMANNA_NEIGHBOURS: return "key not strictly between its neighbours";
-    case DORGUMANNA_NO_ROOM: return "free below what the call adds";
+    case DORGUMANNA_NO_ROOM:
+        return "free below what the call adds: the needs filed, or for a key change only its new payload";
     case DORGUMANNA_PAYLOAD: return "a slot visited has payload outside end..16,256";
     case DORGUMANNA_BUFFER_LENGTH: return "output buffer too short";
     case DORGUMANNA_SHORT_KEY: return "key under 8 bytes";
@@ -71,8 +72,9 @@ static inline const char *dorgumanna_refusal_text(uint8_t number)
     }
 }
 
-/* number is 0, and a, b are the call's values; or number is that of a refusal, and a is what the refusal carries.
- * Values that there are not are 0. */
+/* number is 0, and a, b are the call's values; or number is that of a refusal, and a is what the refusal carries. Of a
+ * batch alone, a is then the place of the record refused, and b what the refusal carries. Values that there are not
+ * are 0. */
 typedef struct {
     uint8_t number;
     uint64_t a;
@@ -92,20 +94,24 @@ typedef struct {
     uint64_t compacted; /* free after compaction */
 } dorgumanna_space_answer;
 
-/* Reads. They write nothing but what copy_key writes to its buffer. */
+/* Reads. They write nothing but what copy_key writes to its buffer.
+ *
+ * find and the bounds test the header rules, not the whole page, and answer what halving finds. On a fit page that is
+ * what a scan of all keys finds. On a page that passes the header rules but is not fit, say one with stale hints, a key
+ * that is there can be missed. So of a page that is not known to be fit, ask the fit verdict first: dorgumanna_fit. */
 
-/* Where a key stands. a: its slot, and b: 1; or, where it is not there, a: the number of smaller keys, and b: 0.
- * Refused by 1, 2, 3, 4, 8, 14. */
+/* Looks for a key. a: the slot where it was found, and b: 1; or, where it was not found, a: where it was looked for,
+ * on a fit page the number of smaller keys, and b: 0. Refused by 1, 2, 3, 4, 8, 14. */
 dorgumanna_answer dorgumanna_find(const uint8_t *page, size_t page_len, uint8_t width, const uint8_t *key,
                                   size_t key_len);
 
-/* a: the number of keys below the probe; 0 for a probe before the page's prefix, the count for one after it.
- * Refused by 1, 2, 3, 4, 14. */
+/* a: on a fit page the number of keys below the probe; 0 for a probe before the page's prefix, the count for one after
+ * it. Refused by 1, 2, 3, 4, 14. */
 dorgumanna_answer dorgumanna_lower_bound(const uint8_t *page, size_t page_len, uint8_t width, const uint8_t *key,
                                          size_t key_len);
 
-/* a: the number of keys at most the probe; 0 for a probe before the page's prefix, the count for one after it.
- * Refused by 1, 2, 3, 4, 14. */
+/* a: on a fit page the number of keys at most the probe; 0 for a probe before the page's prefix, the count for one
+ * after it. Refused by 1, 2, 3, 4, 14. */
 dorgumanna_answer dorgumanna_upper_bound(const uint8_t *page, size_t page_len, uint8_t width, const uint8_t *key,
                                          size_t key_len);
 
@@ -172,8 +178,9 @@ dorgumanna_answer dorgumanna_change_key(uint8_t *page, size_t page_len, uint8_t 
                                         size_t key_len);
 
 /* Appends n entries of the source, from the slot first on, to the page; hints in use are refreshed. The source, a page
- * of the same width, is only read. Refused by 1, 2, 5 (the page before the source), 10, then entry by entry 8, 9, then
- * 12, 13. */
+ * of the same width, is only read. n = 0 with first up to the source's count is done and changes nothing. Refused by 1,
+ * 2, 5 (the page before the source), 10, then entry by entry 8, 9, then 12 (the first entry against the page's last
+ * one), 13. */
 dorgumanna_answer dorgumanna_copy_run(uint8_t *page, size_t page_len, const uint8_t *source, size_t source_len,
                                       uint8_t width, size_t first, size_t n);
 

@@ -10,16 +10,22 @@ fn main() {
         Some(path) => PathBuf::from(path),
         None => package.join("../../target/native/libdorgumanna.a"),
     };
-    println!("cargo::rerun-if-changed={}", archive.display());
-    let found = archive.canonicalize().ok();
-    let Some(found) = found.filter(|found| found.ends_with("libdorgumanna.a")) else {
+    if !(archive.is_absolute() && archive.ends_with("libdorgumanna.a")) {
         println!(
-            "cargo::error=there is no archive {}: run ./archive at the project's root, or name a libdorgumanna.a in DORGUMANNA_ARCHIVE",
+            "cargo::error=DORGUMANNA_ARCHIVE is {}: an absolute path of a file libdorgumanna.a is needed",
             archive.display()
         );
         return;
-    };
-    let folder = found.parent().expect("a file is in a folder");
+    }
+    println!("cargo::rerun-if-changed={}", archive.display());
+    if !archive.is_file() {
+        println!(
+            "cargo::error=there is no archive {}: run ./archive at the project's root, or name another one in DORGUMANNA_ARCHIVE",
+            archive.display()
+        );
+        return;
+    }
+    let folder = archive.parent().expect("a file is in a folder");
     println!("cargo::rustc-link-search=native={}", folder.display());
     println!("cargo::rustc-link-lib=static=dorgumanna");
 }

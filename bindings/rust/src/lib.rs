@@ -22,8 +22,9 @@
 //! hands slices on and names the answers, and its tests hold it against a plain reading of 01.
 
 #![deny(missing_docs)]
-#![deny(unsafe_op_in_unsafe_fn)]
+#![deny(unsafe_code)]
 
+#[allow(unsafe_code)]
 mod c;
 mod page;
 mod refusal;

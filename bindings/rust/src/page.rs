@@ -40,12 +40,12 @@ impl TryFrom<u8> for Width {
     }
 }
 
-/// What find answers.
+/// What find answers. On a page that is not fit a key that is there can be missed: see [`PageRef`].
 #[derive(Clone, Copy, Debug, PartialEq, Eq, Hash)]
 pub enum Found {
-    /// The key is there, in this slot.
+    /// The key was found in this slot.
     Equal(usize),
-    /// The key is not there, and this many keys are smaller.
+    /// The key was not found. On a fit page it is not there, and this many keys are smaller.
     Smaller(usize),
 }
 
@@ -148,6 +148,10 @@ pub fn push_record(records: &mut Vec<u8>, key: &[u8], value: u64) -> Result<(), 
 }
 
 /// A page lent for reading, and the width of its values.
+///
+/// Find and the bounds test the header rules, not the whole page, and answer what halving finds. On a fit page that is what
+/// a scan of all keys finds. On a page that passes the header rules but is not fit, say one with stale hints, a key that is
+/// there can be missed. So of a page that is not known to be fit, ask the fit verdict first: [`PageRef::fit`].
 #[derive(Clone, Copy)]
 pub struct PageRef<'a> {
     bytes: &'a [u8; PAGE_BYTES],
@@ -183,7 +187,7 @@ impl<'a> PageRef<'a> {
         self.width
     }
 
-    /// Where a key stands, or how many keys are smaller. Refuses 3, 4, 8, 14.
+    /// Looks for a key: on a fit page, where it stands, or how many keys are smaller. Refuses 3, 4, 8, 14.
     pub fn find(self, key: &[u8]) -> Result<Found, Refusal> {
         let (slot, equal) = c::find(self.bytes, self.width as u8, key).values()?;
         Ok(match equal {
@@ -192,13 +196,13 @@ impl<'a> PageRef<'a> {
         })
     }
 
-    /// The number of keys below the probe. Refuses 3, 4, 14.
+    /// On a fit page, the number of keys below the probe. Refuses 3, 4, 14.
     pub fn lower_bound(self, probe: &[u8]) -> Result<usize, Refusal> {
         let (keys, _) = c::lower_bound(self.bytes, self.width as u8, probe).values()?;
         Ok(keys as usize)
     }
 
-    /// The number of keys at most the probe. Refuses 3, 4, 14.
+    /// On a fit page, the number of keys at most the probe. Refuses 3, 4, 14.
     pub fn upper_bound(self, probe: &[u8]) -> Result<usize, Refusal> {
         let (keys, _) = c::upper_bound(self.bytes, self.width as u8, probe).values()?;
         Ok(keys as usize)
@@ -262,17 +266,21 @@ impl<'a> PageRef<'a> {
         })
     }
 
-    /// Whether the layout is right. Nothing is refused of a page of this type.
-    pub fn layout(self) -> Result<bool, Refusal> {
-        let (yes, _) = c::layout(self.bytes, self.width as u8).values()?;
-        Ok(yes != 0)
+    /// Whether the layout is right.
+    pub fn layout(self) -> bool {
+        verdict(c::layout(self.bytes, self.width as u8)) != 0
     }
 
-    /// 0 where the page is fit, else the first rule broken, U1 to U9. Nothing is refused of a page of this type.
-    pub fn fit(self) -> Result<u8, Refusal> {
-        let (rule, _) = c::fit(self.bytes, self.width as u8).values()?;
-        Ok(rule as u8)
+    /// 0 where the page is fit, else the first rule broken, U1 to U9.
+    pub fn fit(self) -> u8 {
+        verdict(c::fit(self.bytes, self.width as u8))
     }
+}
+
+/// A verdict's number. Verdicts refuse 1 and 2 alone, which no page of these types gets.
+fn verdict(answer: c::Answer) -> u8 {
+    let (number, _) = answer.values().expect("length and width are right");
+    number as u8
 }
 
 /// A page lent for editing, and the width of its values. After an edit that is done the page is fit; one that is refused
@@ -345,8 +353,9 @@ impl<'a> Page<'a> {
         Ok(())
     }
 
-    /// Appends `n` entries of a source page of the same width, from the slot `first` on. Refuses 5 (this page before the
-    /// source), 10, then entry by entry 8, 9, then 12, 13.
+    /// Appends `n` entries of a source page of the same width, from the slot `first` on. With `n` 0 and `first` up to
+    /// the source's count it is done and changes nothing. Refuses 5 (this page before the source), 10, then entry by entry
+    /// 8, 9, then 12 (the first entry against this page's last one), 13.
     pub fn copy_run(
         &mut self,
         source: &[u8; PAGE_BYTES],

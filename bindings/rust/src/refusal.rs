@@ -31,7 +31,7 @@ pub enum Refusal {
     Present,
     /// 12: key not strictly between its neighbours.
     Neighbours,
-    /// 13: free below what the call adds.
+    /// 13: free below what the call adds: the needs filed, or for a key change only its new payload.
     NoRoom,
     /// 14: a slot visited has payload outside end..16,256.
     Payload,
@@ -107,7 +107,10 @@ impl Refusal {
             ),
             Refusal::Present => (11, "key already there"),
             Refusal::Neighbours => (12, "key not strictly between its neighbours"),
-            Refusal::NoRoom => (13, "free below what the call adds"),
+            Refusal::NoRoom => (
+                13,
+                "free below what the call adds: the needs filed, or for a key change only its new payload",
+            ),
             Refusal::Payload => (14, "a slot visited has payload outside end..16,256"),
             Refusal::BufferLength => (15, "output buffer too short"),
             Refusal::ShortKey => (16, "key under 8 bytes"),

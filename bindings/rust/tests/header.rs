@@ -1,17 +1,30 @@
-//! The C header beside the bindings: the same functions with the same arguments, the same numbers and texts.
+//! The C header beside all that declares its functions in Rust: the same functions with the same arguments, the same
+//! answers; and beside the bindings: the same numbers and texts.
 
 use dorgumanna::{BatchRefusal, Refusal};
 use std::collections::BTreeMap;
 use std::fs;
 
+/// The declarations: of the bindings, and of the program that measures the library's speed.
+const DECLARATIONS: [&str; 2] = ["src/c.rs", "../../compare/speed/src/ours.rs"];
+
 fn header() -> String {
-    fs::read_to_string("../../include/dorgumanna.h").expect("the header")
+    read("../../include/dorgumanna.h")
+}
+
+fn read(name: &str) -> String {
+    fs::read_to_string(name).expect(name)
+}
+
+/// A text whose words have one space between them.
+fn in_a_line(text: &str) -> String {
+    text.split_whitespace().collect::<Vec<_>>().join(" ")
 }
 
 /// Each function's arguments and result in Rust's words, by its name. `after` stands before every name, a `;` at the
 /// end of every declaration.
 fn functions(text: &str, after: &str, argument: fn(&str) -> String) -> BTreeMap<String, String> {
-    let text = text.split_whitespace().collect::<Vec<_>>().join(" ");
+    let text = in_a_line(text);
     let declarations = text.split(';').filter_map(|part| {
         let (before, rest) = part.rsplit_once(after)?;
         let (name, rest) = rest.split_once('(')?;
@@ -44,13 +57,14 @@ fn in_rust(argument: &str) -> String {
 
 #[test]
 fn functions_are_declared_alike() {
-    let ours = fs::read_to_string("src/c.rs").expect("the declarations");
-    let ours = functions(&ours, "fn dorgumanna_", str::to_string);
     let theirs = header();
     let (_, calls) = theirs.split_once("/* Reads.").expect("the calls");
     let calls = functions(calls, "answer dorgumanna_", in_rust);
-    assert_eq!(ours, calls);
-    assert_eq!(ours.len(), 19);
+    assert_eq!(calls.len(), 19);
+    for name in DECLARATIONS {
+        let ours = functions(&read(name), "fn dorgumanna_", str::to_string);
+        assert_eq!(ours, calls, "{name}");
+    }
 }
 
 /// The fields of the struct whose text ends in `end`, each turned by `field`.
@@ -62,10 +76,7 @@ fn fields(text: &str, start: &str, end: &str, field: fn(&str) -> Option<String>)
 
 #[test]
 fn answers_have_the_same_fields() {
-    let (ours, theirs) = (
-        fs::read_to_string("src/c.rs").expect("the declarations"),
-        header(),
-    );
+    let header = header();
     let rust = |line: &str| {
         Some(
             line.trim()
@@ -76,10 +87,15 @@ fn answers_have_the_same_fields() {
     };
     let c = |line: &str| Some(in_rust(line.split_once(';')?.0.trim()));
     for (name, c_name, count) in [("Answer", "answer", 3), ("SpaceAnswer", "space_answer", 9)] {
-        let (_, from) = ours.split_once(&format!("struct {name} ")).expect(name);
-        let theirs = fields(&theirs, "struct {", &format!("}} dorgumanna_{c_name};"), c);
-        assert_eq!(fields(from, "{", "}", rust), theirs);
+        let theirs = fields(&header, "struct {", &format!("}} dorgumanna_{c_name};"), c);
         assert_eq!(theirs.len(), count);
+        for file in DECLARATIONS {
+            let ours = read(file);
+            let (_, from) = ours
+                .split_once(&format!("#[repr(C)]\npub struct {name} "))
+                .expect(name);
+            assert_eq!(fields(from, "{", "}", rust), theirs, "{file}");
+        }
     }
 }
 
@@ -105,7 +121,7 @@ fn refusals_have_the_same_numbers_names_and_texts() {
         Refusal::NotFound,
         Refusal::OtherValue(7),
     ];
-    let header = header();
+    let header = in_a_line(&header());
     for (number, refusal) in (1..).zip(all) {
         assert_eq!(refusal.number(), number);
         let name = c_name(refusal);

@@ -22,113 +22,31 @@ pub struct SpaceAnswer {
     pub compacted: u64,
 }
 
+// A test of `bindings/rust` holds these declarations, and the two structs, against the header.
 mod c {
     use super::{Answer, SpaceAnswer};
 
+    #[rustfmt::skip] // a line for each function
     extern "C" {
-        pub fn dorgumanna_find(
-            p: *const u8,
-            n: usize,
-            width: u8,
-            key: *const u8,
-            k: usize,
-        ) -> Answer;
-        pub fn dorgumanna_lower_bound(
-            p: *const u8,
-            n: usize,
-            width: u8,
-            key: *const u8,
-            k: usize,
-        ) -> Answer;
-        pub fn dorgumanna_upper_bound(
-            p: *const u8,
-            n: usize,
-            width: u8,
-            key: *const u8,
-            k: usize,
-        ) -> Answer;
-        pub fn dorgumanna_compare(
-            p: *const u8,
-            n: usize,
-            width: u8,
-            slot: usize,
-            key: *const u8,
-            k: usize,
-        ) -> Answer;
-        pub fn dorgumanna_entry(p: *const u8, n: usize, width: u8, slot: usize) -> Answer;
-        pub fn dorgumanna_copy_key(
-            p: *const u8,
-            n: usize,
-            width: u8,
-            slot: usize,
-            out: *mut u8,
-            m: usize,
-        ) -> Answer;
-        pub fn dorgumanna_trailing_id(p: *const u8, n: usize, width: u8, slot: usize) -> Answer;
-        pub fn dorgumanna_space(p: *const u8, n: usize) -> SpaceAnswer;
-        pub fn dorgumanna_need(width: u8, prefix_len: usize, key: *const u8, k: usize) -> Answer;
-        pub fn dorgumanna_forecast(
-            lower: *const u8,
-            n: usize,
-            upper: *const u8,
-            m: usize,
-        ) -> Answer;
-        pub fn dorgumanna_layout(p: *const u8, n: usize, width: u8) -> Answer;
-        pub fn dorgumanna_fit(p: *const u8, n: usize, width: u8) -> Answer;
-        pub fn dorgumanna_insert(
-            p: *mut u8,
-            n: usize,
-            width: u8,
-            key: *const u8,
-            k: usize,
-            value: u64,
-        ) -> Answer;
-        pub fn dorgumanna_set_value(
-            p: *mut u8,
-            n: usize,
-            width: u8,
-            key: *const u8,
-            k: usize,
-            expected: u64,
-            new: u64,
-        ) -> Answer;
-        pub fn dorgumanna_change_key(
-            p: *mut u8,
-            n: usize,
-            width: u8,
-            slot: usize,
-            key: *const u8,
-            k: usize,
-        ) -> Answer;
-        pub fn dorgumanna_child(p: *const u8, n: usize, key: *const u8, k: usize) -> Answer;
-        pub fn dorgumanna_begin(
-            p: *mut u8,
-            n: usize,
-            height: u16,
-            timestamp: u64,
-            lower: *const u8,
-            l: usize,
-            lower_value: u64,
-            upper: *const u8,
-            u: usize,
-            hints: bool,
-        ) -> Answer;
-        pub fn dorgumanna_copy_run(
-            p: *mut u8,
-            n: usize,
-            source: *const u8,
-            m: usize,
-            width: u8,
-            first: usize,
-            run: usize,
-        ) -> Answer;
-        pub fn dorgumanna_file_batch(
-            p: *mut u8,
-            n: usize,
-            width: u8,
-            records: *const u8,
-            m: usize,
-        ) -> Answer;
+        pub fn dorgumanna_find(page: *const u8, page_len: usize, width: u8, key: *const u8, key_len: usize) -> Answer;
+        pub fn dorgumanna_lower_bound(page: *const u8, page_len: usize, width: u8, key: *const u8, key_len: usize) -> Answer;
+        pub fn dorgumanna_upper_bound(page: *const u8, page_len: usize, width: u8, key: *const u8, key_len: usize) -> Answer;
+        pub fn dorgumanna_compare(page: *const u8, page_len: usize, width: u8, slot: usize, key: *const u8, key_len: usize) -> Answer;
+        pub fn dorgumanna_child(page: *const u8, page_len: usize, key: *const u8, key_len: usize) -> Answer;
+        pub fn dorgumanna_entry(page: *const u8, page_len: usize, width: u8, slot: usize) -> Answer;
+        pub fn dorgumanna_copy_key(page: *const u8, page_len: usize, width: u8, slot: usize, out: *mut u8, out_len: usize) -> Answer;
+        pub fn dorgumanna_trailing_id(page: *const u8, page_len: usize, width: u8, slot: usize) -> Answer;
+        pub fn dorgumanna_space(page: *const u8, page_len: usize) -> SpaceAnswer;
+        pub fn dorgumanna_need(width: u8, prefix_len: usize, key: *const u8, key_len: usize) -> Answer;
+        pub fn dorgumanna_forecast(lower: *const u8, lower_len: usize, upper: *const u8, upper_len: usize) -> Answer;
+        pub fn dorgumanna_layout(page: *const u8, page_len: usize, width: u8) -> Answer;
+        pub fn dorgumanna_fit(page: *const u8, page_len: usize, width: u8) -> Answer;
+        pub fn dorgumanna_begin(page: *mut u8, page_len: usize, height: u16, timestamp: u64, lower: *const u8, lower_len: usize, lower_value: u64, upper: *const u8, upper_len: usize, hints: bool) -> Answer;
+        pub fn dorgumanna_insert(page: *mut u8, page_len: usize, width: u8, key: *const u8, key_len: usize, value: u64) -> Answer;
+        pub fn dorgumanna_set_value(page: *mut u8, page_len: usize, width: u8, key: *const u8, key_len: usize, expected: u64, new_value: u64) -> Answer;
+        pub fn dorgumanna_change_key(page: *mut u8, page_len: usize, width: u8, slot: usize, key: *const u8, key_len: usize) -> Answer;
+        pub fn dorgumanna_copy_run(page: *mut u8, page_len: usize, source: *const u8, source_len: usize, width: u8, first: usize, n: usize) -> Answer;
+        pub fn dorgumanna_file_batch(page: *mut u8, page_len: usize, width: u8, records: *const u8, records_len: usize) -> Answer;
     }
 }
 

@@ -26,7 +26,7 @@ use search::find;
 use verdict::fit;
 use verdict::layout;
 
-// Find: `a` the slot and `b` 1, or `a` the number of smaller keys and `b` 0.
+// Find: `a` the slot and `b` 1, or `b` 0 and `a` where halving ended, on a fit page the number of smaller keys.
 #[no_mangle]
 pub extern "C" fn dorgumanna_find(page: &[u8], width: u8, key: &[u8]) -> Answer
     ensures { λ r. ⌜ r ≡ told (foundSays (findOf width (now (page .entry)) (now (key .entry)))) ⌝ }
@@ -34,7 +34,7 @@ pub extern "C" fn dorgumanna_find(page: &[u8], width: u8, key: &[u8]) -> Answer
     answer::found(find::find(page, width, key))
 }
 
-// Lower bound: `a` the number of keys below the probe.
+// Lower bound: `a` where halving ended, on a fit page the number of keys below the probe.
 #[no_mangle]
 pub extern "C" fn dorgumanna_lower_bound(page: &[u8], width: u8, key: &[u8]) -> Answer
     ensures { λ r. ⌜ r ≡ told (boundSays (boundOf false width (now (page .entry)) (now (key .entry)))) ⌝ }
@@ -42,7 +42,7 @@ pub extern "C" fn dorgumanna_lower_bound(page: &[u8], width: u8, key: &[u8]) -> 
     answer::bounded(bound::lower_bound(page, width, key))
 }
 
-// Upper bound: `a` the number of keys at most the probe.
+// Upper bound: `a` where halving ended, on a fit page the number of keys at most the probe.
 #[no_mangle]
 pub extern "C" fn dorgumanna_upper_bound(page: &[u8], width: u8, key: &[u8]) -> Answer
     ensures { λ r. ⌜ r ≡ told (boundSays (boundOf true width (now (page .entry)) (now (key .entry)))) ⌝ }

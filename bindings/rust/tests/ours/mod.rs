@@ -84,8 +84,8 @@ impl Ours {
                 let forecast = forecast(key, &request.second)?;
                 pair(forecast.prefix_len as u64, forecast.effective)
             }
-            18 => number(u64::from(self.page(request)?.layout()?)),
-            19 => number(u64::from(self.page(request)?.fit()?)),
+            18 => number(u64::from(self.page(request)?.layout())),
+            19 => number(u64::from(self.page(request)?.fit())),
             call => unreachable!("call {call}"),
         })
     }
