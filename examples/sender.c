@@ -1,4 +1,4 @@
-/* Opens a sample page, finds a sender, files another one, and prints what is refused.
+/* Asks the verdict of two sample pages, finds a sender, files another one, and prints what is refused.
  * sender PAGE BROKEN: two files of samples/, each a width byte and a page; the second page is not fit. */
 #include "dorgumanna.h"
 
@@ -26,6 +26,18 @@ static void print_refusal(dorgumanna_answer answer)
     if (answer.number == DORGUMANNA_NOT_FIT)
         printf(" (U%llu)", (unsigned long long)answer.a);
     printf("\n");
+}
+
+static void verdict(const sample *s, const char *name)
+{
+    dorgumanna_answer rule = dorgumanna_fit(s->bytes, sizeof s->bytes, s->width);
+    printf("verdict of the %s page: ", name);
+    if (rule.number != DORGUMANNA_DONE)
+        print_refusal(rule);
+    else if (rule.a == 0)
+        printf("fit\n");
+    else
+        printf("not fit (U%llu)\n", (unsigned long long)rule.a);
 }
 
 static void find(const sample *s, size_t length, const char *key)
@@ -61,6 +73,8 @@ int main(int argc, char **argv)
         fprintf(stderr, "usage: sender PAGE BROKEN, each a width byte and a page\n");
         return 1;
     }
+    verdict(&page, "first");
+    verdict(&broken, "second");
     find(&page, sizeof page.bytes, "hub/osl/sender/00731 Fjordfrakt");
     find(&page, sizeof page.bytes, "hub/osl/sender/00512 Solheim");
     file(&page, "hub/osl/sender/00512 Solheim", 7);

@@ -1,4 +1,4 @@
-//! Opens a sample page, finds a sender, files another one, and prints what is refused.
+//! Asks the verdict of two sample pages, finds a sender, files another one, and prints what is refused.
 //! `sender PAGE BROKEN`: two files of samples/, each a width byte and a page; the second page is not fit.
 
 use dorgumanna::{Found, Page, PageRef, Refusal, Width};
@@ -22,6 +22,15 @@ fn read_sample(name: &str) -> Result<Sample, Box<dyn Error>> {
 
 fn print_refusal(refusal: Refusal) {
     println!("refused, {}: {refusal}", refusal.number());
+}
+
+fn verdict(sample: &Sample, name: &str) {
+    print!("verdict of the {name} page: ");
+    match PageRef::from_slice(&sample.bytes, sample.width).map(PageRef::fit) {
+        Ok(0) => println!("fit"),
+        Ok(rule) => println!("not fit (U{rule})"),
+        Err(refusal) => print_refusal(refusal),
+    }
 }
 
 fn find(sample: &Sample, length: usize, key: &str) {
@@ -54,6 +63,8 @@ fn main() -> Result<(), Box<dyn Error>> {
     };
     let (mut page, mut broken) = (read_sample(page)?, read_sample(broken)?);
     let length = page.bytes.len();
+    verdict(&page, "first");
+    verdict(&broken, "second");
     find(&page, length, "hub/osl/sender/00731 Fjordfrakt");
     find(&page, length, "hub/osl/sender/00512 Solheim");
     file(&mut page, "hub/osl/sender/00512 Solheim", 7);
