@@ -85,12 +85,12 @@ module _ (p k : List ℕ) (h : Header) (e : h ≡ headerOf p) (c : ℕ) (f : c �
   unfolding childWith judge
   child-lacks g = rw (lacks-prefix p k h e c f g)
 
-  module _ (one : c ≡ 1) (x : List ℕ) (d : x ≡ probeSuffix (frameOf p) k) (t : Bool) (g : t ≡ insideBy p h x) where
+  module _ (one : c ≡ 1) (x : List ℕ) (d : x ≡ probeSuffix (frameOf p) k) (t : Bool) (g : t ≡ insideBy p (headerOf p) x) where
     has : hasPrefix (frameOf p) k ≡ true
     has = has-prefix p k h e c f one
 
     lies : inside (frameOf p) k ≡ t
-    lies = sym (g ∙ inside-is p k has h x e d)
+    lies = sym (g ∙ inside-is p k has (headerOf p) x refl d)
 
     pub child-outside : t ≡ false → childWith p k ≡ Child·Refused OutsideFences
     unfolding childWith judge

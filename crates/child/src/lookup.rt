@@ -45,7 +45,7 @@ fn child_with(p: &[u8], h: Header, key: &[u8]) -> Child
         return Child::Refused(Refusal::Prefix);
     }
     let suffix = probe::suffix(p, key);
-    if !fence::inside(p, h, suffix) {
+    if !fence::inside(p, suffix) {
         return Child::Refused(Refusal::OutsideFences);
     }
     let b = bound::bound_at(p, 8, suffix, true);

@@ -1,6 +1,6 @@
 -- Change key on a fit page by a header: the tests are the paper's, a refusal keeps the page, and where all hold the slot takes the suffix. Assumes
 -- nothing.
-use mathlib.Core.Path.{_≡_, sym, ap, _∙_}
+use mathlib.Core.Path.{_≡_, refl, sym, ap, _∙_}
 use mathlib.Core.Bool.{Bool, true, false}
 use mathlib.Core.List.{List}
 use Prim.Native.Nat.{ℕ, _+_, _-_, _*_, _≤_, _<_}
@@ -84,12 +84,12 @@ module _ (w : ℕ) (p k : List ℕ) (i : ℕ) (h : Header) (e : h ≡ headerOf p
   unfolding changeWith judge
   change-lacks g = rw (lacks-prefix p k h e c f g)
 
-  module _ (one : c ≡ 1) (x : List ℕ) (d : x ≡ probeSuffix (frameOf p) k) (t : Bool) (g : t ≡ insideBy p h x) where
+  module _ (one : c ≡ 1) (x : List ℕ) (d : x ≡ probeSuffix (frameOf p) k) (t : Bool) (g : t ≡ insideBy p (headerOf p) x) where
     has : hasPrefix (frameOf p) k ≡ true
     has = has-prefix p k h e c f one
 
     lies : inside (frameOf p) k ≡ t
-    lies = sym (g ∙ inside-is p k has h x e d)
+    lies = sym (g ∙ inside-is p k has (headerOf p) x refl d)
 
     pub change-outside : t ≡ false → changeWith w p i k ≡ Edited·Refused OutsideFences
     unfolding changeWith judge

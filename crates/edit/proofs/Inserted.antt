@@ -8,7 +8,7 @@ use native.Mathlib.Omega.{arith}
 use borrow.Author.Tests.{leb-true}
 use lib.Dec.{leb}
 use lib.ListN.{length, length-drop}
-use Rattle.octets.specs.Bytes.{IsBytes}
+use Rattle.octets.specs.Bytes.{IsBytes, le}
 use Rattle.keys.specs.Choice.{pick}
 use Rattle.paper.specs.Lists.{all, differ}
 use Rattle.paper.specs.Page.{bodyBytes, frameOf, numbersOf, headerOf}
@@ -33,54 +33,54 @@ use Rattle.verdict.specs.Fits.{fitAdmitOf}
 use Rattle.search.specs.Probe.{classBy, classNumber}
 use Rattle.search.specs.Fence.{insideBy}
 use Rattle.search.specs.Finds.{findIn}
-use Rattle.search.proofs.Classes.{has-prefix, lacks-prefix}
 use Rattle.search.proofs.Fences.{inside-is}
+use Rattle.search.proofs.Asked.{start-read, end-read}
 use Rattle.search.proofs.Scans.{found-scan}
 use Rattle.write.specs.Room.{Room}
 use Rattle.write.proofs.Givens.{room-given}
 use Rattle.edit.specs.Tested.{Tested}
 use Rattle.edit.specs.Inserts.{insertTests, insertWith, insertedWith, roomWith, placeBy}
-use Rattle.edit.proofs.Testing.{tested-fit, tested-rules, judge-refused, judge-fitted}
+use Rattle.edit.proofs.Testing.{prefix-held, prefix-not, tested-fit, tested-rules, judge-refused, judge-fitted}
 
 -- ---- the room; b is what was counted of the suffix
-pub room-is : (w : ℕ) (h : Header) (n b : ℕ) → b ≡ bodyBytes 4 n → leb (8 + w + b) (h .end - h .start) ≡ roomWith w h n
+pub room-is : (w start end n b : ℕ) → b ≡ bodyBytes 4 n → leb (8 + w + b) (end - start) ≡ roomWith w start end n
 unfolding roomWith need
-room-is w h n b e = rw e
+room-is w start end n b e = rw e
 
--- what it asks of a page that was tested; x is the key's suffix
-pub room-asked : (w : ℕ) (p k : List ℕ) (h : Header) → Tested w p (length k) h → (x : List ℕ) → x ≡ probeSuffix (frameOf p) k
-    → (h .start ≤ h .end) × (length x ≤ 65535)
+-- what it asks of a page that was tested; start and end as they were read, x is the key's suffix
+pub room-asked : (w : ℕ) (p k : List ℕ) → Tested w p (length k) → (start : ℕ) → start ≡ le 2 p 4 → (end : ℕ) → end ≡ le 2 p 6
+    → (x : List ℕ) → x ≡ probeSuffix (frameOf p) k → (start ≤ end) × (length x ≤ 65535)
 unfolding headerOf
-room-asked w p k h T x d =
-    rw (T .header, d) (tested-rules w p (length k) h T .order, omega (arith, length-drop (frameOf p .prefixLen) k, T .keyLength))
+room-asked w p k T start s end e x d =
+    rw (start-read p start s, end-read p end e, d) (tested-rules w p (length k) T .order, omega (arith, length-drop (frameOf p .prefixLen) k, T .keyLength))
 
--- ---- the slot; t says whether the value fits, c is the class as a number, x the key's suffix, u whether it lies inside
-module _ (w : ℕ) (p k : List ℕ) (v : ℕ) (h : Header) (T : Tested w p (length k) h) (t : Bool) (a : t ≡ fitsWidth w v) where
+-- ---- the slot; t says whether the value fits, n is the prefix's length and c the class as a number, x the key's suffix, u whether it lies inside
+module _ (w : ℕ) (p k : List ℕ) (v : ℕ) (T : Tested w p (length k)) (t : Bool) (a : t ≡ fitsWidth w v) where
   pub place-range : t ≡ false → insertWith w p k v ≡ Filed·Refused ValueRange
   unfolding insertWith judge
   place-range g = rw (← a, g)
 
-  module _ (fits : t ≡ true) (c : ℕ) (f : c ≡ classNumber (classBy p (h .«prefix_len») k)) where
+  module _ (fits : t ≡ true) (n : ℕ) (r : n ≡ le 2 p 46) (c : ℕ) (f : c ≡ classNumber (classBy p n k)) where
     pub place-lacks : (c ≡ 1 → ⊥) → insertWith w p k v ≡ Filed·Refused Prefix
     unfolding insertWith judge
-    place-lacks g = rw (← a, fits, lacks-prefix p k h (T .header) c f g)
+    place-lacks g = rw (← a, fits, prefix-not p k n r c f g)
 
-    module _ (one : c ≡ 1) (x : List ℕ) (d : x ≡ probeSuffix (frameOf p) k) (u : Bool) (g : u ≡ insideBy p h x) where
+    module _ (one : c ≡ 1) (x : List ℕ) (d : x ≡ probeSuffix (frameOf p) k) (u : Bool) (g : u ≡ insideBy p (headerOf p) x) where
       has : hasPrefix (frameOf p) k ≡ true
-      has = has-prefix p k h (T .header) c f one
+      has = prefix-held p k n r c f one
 
       lies : inside (frameOf p) k ≡ u
-      lies = sym (g ∙ inside-is p k has h x (T .header) d)
+      lies = sym (g ∙ inside-is p k has (headerOf p) x refl d)
 
       pub place-outside : u ≡ false → insertWith w p k v ≡ Filed·Refused OutsideFences
       unfolding insertWith judge
       place-outside l = rw (← a, fits, has, lies, l)
 
       -- on a fit page the search finds what the scan does
-      module _ (inner : u ≡ true) (room : Bool) (e : room ≡ roomWith w h (length x)) (b : IsBytes p) (hk : IsBytes k) where
+      module _ (inner : u ≡ true) (start : ℕ) (s : start ≡ le 2 p 4) (end : ℕ) (e : end ≡ le 2 p 6) (room : Bool) (o : room ≡ roomWith w start end (length x)) (b : IsBytes p) (hk : IsBytes k) where
         room-of : leb (need w (length (probeSuffix (frameOf p) k))) (free (numbersOf p)) ≡ room
         unfolding roomWith headerOf
-        room-of = sym (e ∙ rw (T .header, d))
+        room-of = sym (o ∙ rw (start-read p start s, end-read p end e, d))
 
         by-scan : (s : Bool) (r : ℕ) → pick s (pick room (Filed·At r) (Filed·Refused NoRoom)) (Filed·Refused Present) ≡ placeBy room (pick s (Smaller r) (Equal r))
         unfolding placeBy
@@ -90,7 +90,7 @@ module _ (w : ℕ) (p k : List ℕ) (v : ℕ) (h : Header) (T : Tested w p (leng
         pub place-found : (y : Found) → y ≡ findIn w p (headerOf p) x → insertWith w p k v ≡ placeBy room y
         unfolding insertWith judge findScan
         place-found y m =
-            let found = found-scan w p (T .size) b (tested-fit w p (length k) h T) k hk has x d in
+            let found = found-scan w p (T .size) b (tested-fit w p (length k) T) k hk has x d in
             rw (m, found, ← a, fits, has, lies, inner, room-of) (by-scan (all (differ k) (keys (listing w p))) (scan false k (listing w p)))
 
 -- ---- the page
@@ -130,10 +130,10 @@ module _ (w : ℕ) (p k : List ℕ) (v : ℕ) where
 
     -- x is the key's suffix
     module _ (x : List ℕ) (d : x ≡ probeSuffix (frameOf p) k) where
-      pub insert-room : (h : Header) → Tested w p (length k) h → IsBytes p → Room w p h i (length x)
-      insert-room h T b =
-          let F = tested-fit w p (length k) h T in
-          rw (T .header, d) (room-given w p (T .size) F i (length (probeSuffix (frameOf p) k)) (rw slot-is (r-le w p (T .size) b F false k)) enough)
+      pub insert-room : Tested w p (length k) → IsBytes p → Room w p (headerOf p) i (length x)
+      insert-room T b =
+          let F = tested-fit w p (length k) T in
+          rw d (room-given w p (T .size) F i (length (probeSuffix (frameOf p) k)) (rw slot-is (r-le w p (T .size) b F false k)) enough)
 
       pub insert-done : (q : List ℕ) → q ≡ inserted w p i x v → q ≡ insertedWith w p k v
       unfolding insertedWith

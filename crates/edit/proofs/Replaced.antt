@@ -32,7 +32,6 @@ use Rattle.node.specs.declared.admit.Admitted.the-variants.{Is as Admitted·Is,
 use Rattle.verdict.specs.Fits.{fitAdmitOf}
 use Rattle.search.specs.Probe.{classBy, classNumber}
 use Rattle.search.specs.Finds.{findIn}
-use Rattle.search.proofs.Classes.{has-prefix, lacks-prefix}
 use Rattle.search.proofs.Scans.{found-scan}
 use Rattle.write.proofs.Givens.{set-given}
 use Rattle.write.proofs.Rekeys.{value-is}
@@ -40,7 +39,7 @@ use Rattle.edit.specs.Tested.{Tested}
 use Rattle.edit.specs.Sets.{setTests, heldWith, heldAt, setWith, valueSetWith}
 use Rattle.edit.specs.declared.set.Held.the-variants.{At as Held·At, Refused as Held·Refused}
 use Rattle.edit.proofs.Widths.{width-most}
-use Rattle.edit.proofs.Testing.{tested-fit, judge-refused, judge-fitted}
+use Rattle.edit.proofs.Testing.{prefix-held, prefix-not, tested-fit, judge-refused, judge-fitted}
 
 -- ---- a slot; s is the slot that was read, v its value, read at `at`
 module _ (w : ℕ) (p : List ℕ) (i expected : ℕ) (s : Slot) (at v : ℕ) (l : w ≤ 8) (e : s ≡ slotAt p (place i)) (f : at ≡ valueAt s) (g : v ≡ le (min w 8) p at) where
@@ -57,17 +56,17 @@ module _ (w : ℕ) (p : List ℕ) (i expected : ℕ) (s : Slot) (at v : ℕ) (l 
   held-same d = rw (stored, eq-eqb v expected d)
 
 -- ---- a key that is there
-module _ (w : ℕ) (p k : List ℕ) (h : Header) (T : Tested w p (length k) h) (b : IsBytes p) where
+module _ (w : ℕ) (p k : List ℕ) (T : Tested w p (length k)) (b : IsBytes p) where
   -- its slot is one
   there : all (differ k) (keys (listing w p)) ≡ false → scan false k (listing w p) < numbersOf p .count
   there e =
-      let F = tested-fit w p (length k) h T in
+      let F = tested-fit w p (length k) T in
       omega (arith, present-at k (keys (listing w p)) (rises w p (T .size) b F) e .0, length-keys w p (T .size) b F)
 
   -- which can be read and written
   given : (i : ℕ) → i ≡ scan false k (listing w p) → all (differ k) (keys (listing w p)) ≡ false
       → (16384 ≤ length p) × (8 * i + 8 ≤ 16256) × (slotOf p i .offset + payloadBytes w (slotOf p i .len) ≤ 16256)
-  given i e a = set-given w p (T .size) (tested-fit w p (length k) h T) i (rw e (there a))
+  given i e a = set-given w p (T .size) (tested-fit w p (length k) T) i (rw e (there a))
 
 -- ---- what a search says of a key
 module _ (k : List ℕ) (ks : List (List ℕ)) (r : ℕ) where
@@ -92,8 +91,8 @@ module _ (k : List ℕ) (ks : List (List ℕ)) (r : ℕ) where
       go true e = let z : _≡_ {A = ℕ} 0 1 = cc in omega arith
       go false e = let z : _≡_ {A = ℕ} 0 1 = cc in omega arith
 
--- ---- the slot of a key; t and s say whether the values fit, c is the class as a number, x the key's suffix
-module _ (w : ℕ) (p k : List ℕ) (expected new : ℕ) (h : Header) (T : Tested w p (length k) h) (t : Bool) (a : t ≡ fitsWidth w expected) where
+-- ---- the slot of a key; t and s say whether the values fit, n is the prefix's length and c the class as a number, x the key's suffix
+module _ (w : ℕ) (p k : List ℕ) (expected new : ℕ) (T : Tested w p (length k)) (t : Bool) (a : t ≡ fitsWidth w expected) where
   pub held-range : t ≡ false → heldWith w p k expected new ≡ Held·Refused ValueRange
   unfolding heldWith judge
   held-range g = rw (← a, g)
@@ -103,18 +102,18 @@ module _ (w : ℕ) (p k : List ℕ) (expected new : ℕ) (h : Header) (T : Teste
     unfolding heldWith judge
     held-range-new g = rw (← a, fits, ← d, g)
 
-    module _ (fits-new : s ≡ true) (c : ℕ) (f : c ≡ classNumber (classBy p (h .«prefix_len») k)) where
+    module _ (fits-new : s ≡ true) (n : ℕ) (r : n ≡ le 2 p 46) (c : ℕ) (f : c ≡ classNumber (classBy p n k)) where
       pub held-lacks : (c ≡ 1 → ⊥) → heldWith w p k expected new ≡ Held·Refused Prefix
       unfolding heldWith judge
-      held-lacks g = rw (← a, fits, ← d, fits-new, lacks-prefix p k h (T .header) c f g)
+      held-lacks g = rw (← a, fits, ← d, fits-new, prefix-not p k n r c f g)
 
       module _ (one : c ≡ 1) (x : List ℕ) (m : x ≡ probeSuffix (frameOf p) k) (b : IsBytes p) (hk : IsBytes k) (y : Found) (found : y ≡ findIn w p (headerOf p) x) where
         has : hasPrefix (frameOf p) k ≡ true
-        has = has-prefix p k h (T .header) c f one
+        has = prefix-held p k n r c f one
 
         scanned : pick (all (differ k) (keys (listing w p))) (Smaller (scan false k (listing w p))) (Equal (scan false k (listing w p))) ≡ y
         unfolding findScan
-        scanned = sym (found ∙ found-scan w p (T .size) b (tested-fit w p (length k) h T) k hk has x m)
+        scanned = sym (found ∙ found-scan w p (T .size) b (tested-fit w p (length k) T) k hk has x m)
 
         pub held-none : (i : ℕ) → y ≡ Smaller i → heldWith w p k expected new ≡ Held·Refused NotFound
         unfolding heldWith judge
@@ -131,7 +130,7 @@ module _ (w : ℕ) (p k : List ℕ) (expected new : ℕ) (h : Header) (T : Teste
 
           -- what its value's test asks for
           pub held-asked : (16384 ≤ length p) × (w ≤ 8) × (8 * i + 8 ≤ 16256) × (slotOf p i .offset + payloadBytes w (slotOf p i .len) ≤ 16256)
-          held-asked = let g = given w p k h T b i (says .0) (says .1) in (g .0, width-most w (T .width), g .1, g .2)
+          held-asked = let g = given w p k T b i (says .0) (says .1) in (g .0, width-most w (T .width), g .1, g .2)
 
           pub held-found : heldWith w p k expected new ≡ heldAt w p i expected
           unfolding heldWith judge heldAt storedValue
@@ -175,9 +174,9 @@ module _ (w : ℕ) (p k : List ℕ) (expected new : ℕ) where
         (not-true (all (differ k) (keys (listing w p))) (c .0), eqb-true (storedValue w p k) expected (d .0))
 
     -- what the write asks for
-    pub set-asked : (h : Header) → Tested w p (length k) h → IsBytes p
+    pub set-asked : Tested w p (length k) → IsBytes p
         → (16384 ≤ length p) × (8 * i + 8 ≤ 16256) × (slotOf p i .offset + payloadBytes w (slotOf p i .len) ≤ 16256)
-    set-asked h T b = given w p k h T b i slot-is (tests-say .0)
+    set-asked T b = given w p k T b i slot-is (tests-say .0)
 
     pub set-done : (q : List ℕ) → q ≡ valueSet w p i new → (Old expected ≡ setWith w p k expected new) × (q ≡ valueSetWith w p k expected new)
     unfolding setWith valueSetWith

@@ -13,7 +13,6 @@ use Rattle.paper.specs.Refusals.{Check, check, judge}
 use Rattle.paper.specs.Edits.{inserted}
 use Rattle.paper.specs.Searches.{probeSuffix, scan}
 use Rattle.paper.specs.Calls.{fitsWidth, prefixHeld, insideFences}
-use Rattle.paper.specs.declared.page.Header.{Header}
 use Rattle.paper.specs.declared.refusal.Refusal.the-variants.{ValueRange, Present, NoRoom}
 use Rattle.paper.specs.declared.answers.Filed.{Filed}
 use Rattle.paper.specs.declared.answers.Filed.the-variants.{At as Filed·At, Refused as Filed·Refused}
@@ -37,9 +36,9 @@ insertWith w p k v = judge (insertTests w p k v) (Filed·At (scan false k (listi
 unfoldable pub insertedWith : ℕ → List ℕ → List ℕ → ℕ → List ℕ
 insertedWith w p k v = judge (insertTests w p k v) (inserted w p (scan false k (listing w p)) (probeSuffix (frameOf p) k) v) (λ r. p)
 
--- 13: whether a page with that header has room for a suffix of n bytes
-unfoldable pub roomWith : ℕ → Header → ℕ → Bool
-roomWith w h n = leb (need w n) (h .end - h .start)
+-- 13: whether there is room from start to end for a suffix of n bytes
+unfoldable pub roomWith : ℕ → ℕ → ℕ → ℕ → Bool
+roomWith w start end n = leb (need w n) (end - start)
 
 -- 11 and 13, by what a search found and whether there is room
 unfoldable pub placeBy : Bool → Found → Filed

@@ -4,15 +4,12 @@ use mathlib.Core.Bool.{true}
 use mathlib.Core.List.{List}
 use Prim.Native.Nat.{ℕ, _≤_}
 use lib.ListN.{length}
-use Rattle.paper.specs.Page.{headerOf}
 use Rattle.paper.specs.Verdicts.{fitOf}
 use Rattle.paper.specs.Calls.{isWidth}
-use Rattle.paper.specs.declared.page.Header.{Header}
 
--- 1, 2, 3 and 5 hold of the page p with header h, of the width w and of a key of n bytes
-pub record Tested (w : ℕ) (p : List ℕ) (n : ℕ) (h : Header) : Type 0 where
+-- 1, 2, 3 and 5 hold of the page p, of the width w and of a key of n bytes
+pub record Tested (w : ℕ) (p : List ℕ) (n : ℕ) : Type 0 where
   pub size : length p ≡ 16384
   pub width : isWidth w ≡ true
   pub keyLength : n ≤ 65535
   pub verdict : fitOf w p ≡ 0
-  pub header : h ≡ headerOf p

@@ -39,7 +39,7 @@ fn judge(p: &[u8], h: Header, width: u8, i: usize, key: &[u8]) -> Edited
         return Edited::Refused(Refusal::Prefix);
     }
     let suffix = probe::suffix(p, key);
-    if !fence::inside(p, h, suffix) {
+    if !fence::inside(p, suffix) {
         return Edited::Refused(Refusal::OutsideFences);
     }
     if (h.count as usize) <= i {

@@ -10,9 +10,9 @@ use crate::values;
 use node::admit;
 use node::admit::Admitted;
 use node::space;
+use octets::number;
 use paper::answers::Filed;
 use paper::answers::Found;
-use paper::page::Header;
 use paper::refusal::Refusal;
 use search::fence;
 use search::find;
@@ -20,12 +20,12 @@ use search::probe;
 use verdict::fit;
 use write::insert;
 
-// Whether a page with this header has room for an entry whose suffix has `n` bytes.
-fn has_room(h: Header, width: u8, n: usize) -> bool
-    requires { ⌜ (h .start ≤ h .end) × (n ≤ 65535) ⌝ }
-    ensures { λ r. ⌜ r ≡ roomWith width h n ⌝ }
+// Whether there is room from start to end for an entry whose suffix has `n` bytes.
+fn has_room(start: u16, end: u16, width: u8, n: usize) -> bool
+    requires { ⌜ (start ≤ end) × (n ≤ 65535) ⌝ }
+    ensures { λ r. ⌜ r ≡ roomWith width start end n ⌝ }
 {
-    8 + (width as usize) + space::body_bytes(4, n) <= (h.end - h.start) as usize
+    8 + (width as usize) + space::body_bytes(4, n) <= (end - start) as usize
 }
 
 // Slot `i` where there is room: 13.
@@ -50,36 +50,41 @@ fn place_by(room: bool, f: Found) -> Filed
 }
 
 // The slot for a key on a page that is fit: 7, 8, 9, 11, 13.
-fn place(p: &[u8], h: Header, width: u8, key: &[u8], value: u64) -> Filed
-    requires { ⌜ Tested width (now p) (length (now key)) h ⌝ }
+fn place(p: &[u8], width: u8, key: &[u8], value: u64) -> Filed
+    requires { ⌜ Tested width (now p) (length (now key)) ⌝ }
     ensures { λ r. ⌜ r ≡ insertWith width (now (p .entry)) (now (key .entry)) value ⌝ }
 {
     if !values::fits_width(width, value) {
         return Filed::Refused(Refusal::ValueRange);
     }
-    if probe::class(p, h.prefix_len, key) != 1 {
+    if probe::class(p, number::read_u16(p, 46), key) != 1 {
         return Filed::Refused(Refusal::Prefix);
     }
     let suffix = probe::suffix(p, key);
-    if !fence::inside(p, h, suffix) {
+    if !fence::inside(p, suffix) {
         return Filed::Refused(Refusal::OutsideFences);
     }
-    let room = has_room(h, width, suffix.len());
+    let room = has_room(
+        number::read_u16(p, 4),
+        number::read_u16(p, 6),
+        width,
+        suffix.len(),
+    );
     place_by(room, find::find_at(p, width, suffix))
 }
 
-// Insert on a page that is fit and has this header: 7, 8, 9, 11, 13.
-pub fn insert_fit(p: &mut [u8], h: Header, width: u8, key: &[u8], value: u64) -> Filed
-    requires { ⌜ Tested width (now p) (length (now key)) h ⌝ }
+// Insert on a page that is fit: 7, 8, 9, 11, 13. The header is read where it is edited, since one that is handed on goes through memory.
+pub fn insert_fit(p: &mut [u8], width: u8, key: &[u8], value: u64) -> Filed
+    requires { ⌜ Tested width (now p) (length (now key)) ⌝ }
     ensures { λ r. ⌜ r ≡ insertWith width (now (p .entry)) (now (key .entry)) value ⌝ }
     ensures { λ _. ⌜ now (p .exit) ≡ insertedWith width (now (p .entry)) (now (key .entry)) value ⌝ }
 {
-    let f = place(p, h, width, key, value);
+    let f = place(p, width, key, value);
     let Filed::At(i) = f else {
         return f;
     };
     let suffix = probe::suffix(p, key);
-    insert::insert_at(p, h, width, i, suffix, value);
+    insert::insert_at(p, width, i, suffix, value);
     f
 }
 
@@ -89,8 +94,8 @@ pub fn insert(p: &mut [u8], width: u8, key: &[u8], value: u64) -> Filed
     ensures { λ _. ⌜ now (p .exit) ≡ insertPage width (now (p .entry)) (now (key .entry)) value ⌝ }
 {
     let a = fit::admit_fit(p, width, key.len());
-    let Admitted::Is(h) = a else {
+    let Admitted::Is(_) = a else {
         return Filed::Refused(admit::why_not(a));
     };
-    insert_fit(p, h, width, key, value)
+    insert_fit(p, width, key, value)
 }

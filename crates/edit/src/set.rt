@@ -12,10 +12,10 @@ use node::admit;
 use node::admit::Admitted;
 use node::entry;
 use node::header;
+use octets::number;
 use octets::value;
 use paper::answers::Found;
 use paper::answers::Replaced;
-use paper::page::Header;
 use paper::refusal::Refusal;
 use search::find;
 use search::probe;
@@ -42,8 +42,8 @@ fn held_at(p: &[u8], width: u8, i: usize, expected: u64) -> Held
 }
 
 // The slot that holds a key with the expected value, on a page that is fit: 7, 8, 17, 18.
-fn find_held(p: &[u8], h: Header, width: u8, key: &[u8], expected: u64, new: u64) -> Held
-    requires { ⌜ Tested width (now p) (length (now key)) h ⌝ }
+fn find_held(p: &[u8], width: u8, key: &[u8], expected: u64, new: u64) -> Held
+    requires { ⌜ Tested width (now p) (length (now key)) ⌝ }
     ensures { λ r. ⌜ r ≡ heldWith width (now (p .entry)) (now (key .entry)) expected new ⌝ }
 {
     if !values::fits_width(width, expected) {
@@ -52,7 +52,7 @@ fn find_held(p: &[u8], h: Header, width: u8, key: &[u8], expected: u64, new: u64
     if !values::fits_width(width, new) {
         return Held::Refused(Refusal::ValueRange);
     }
-    if probe::class(p, h.prefix_len, key) != 1 {
+    if probe::class(p, number::read_u16(p, 46), key) != 1 {
         return Held::Refused(Refusal::Prefix);
     }
     match find::find_at(p, width, probe::suffix(p, key)) {
@@ -72,13 +72,13 @@ fn why_not_held(f: Held) -> Refusal
     }
 }
 
-// Set value on a page that is fit and has this header: 7, 8, 17, 18.
-fn set_fit(p: &mut [u8], h: Header, width: u8, key: &[u8], expected: u64, new: u64) -> Replaced
-    requires { ⌜ Tested width (now p) (length (now key)) h ⌝ }
+// Set value on a page that is fit: 7, 8, 17, 18.
+fn set_fit(p: &mut [u8], width: u8, key: &[u8], expected: u64, new: u64) -> Replaced
+    requires { ⌜ Tested width (now p) (length (now key)) ⌝ }
     ensures { λ r. ⌜ r ≡ setWith width (now (p .entry)) (now (key .entry)) expected new ⌝ }
     ensures { λ _. ⌜ now (p .exit) ≡ valueSetWith width (now (p .entry)) (now (key .entry)) expected new ⌝ }
 {
-    let f = find_held(p, h, width, key, expected, new);
+    let f = find_held(p, width, key, expected, new);
     let Held::At(i) = f else {
         return Replaced::Refused(why_not_held(f));
     };
@@ -93,8 +93,8 @@ pub fn set_value(p: &mut [u8], width: u8, key: &[u8], expected: u64, new: u64) -
     ensures { λ _. ⌜ now (p .exit) ≡ setPage width (now (p .entry)) (now (key .entry)) expected new ⌝ }
 {
     let a = fit::admit_fit(p, width, key.len());
-    let Admitted::Is(h) = a else {
+    let Admitted::Is(_) = a else {
         return Replaced::Refused(admit::why_not(a));
     };
-    set_fit(p, h, width, key, expected, new)
+    set_fit(p, width, key, expected, new)
 }

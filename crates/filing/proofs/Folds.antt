@@ -4,6 +4,7 @@ use mathlib.Core.Bool.{Bool, true, false}
 use mathlib.Core.List.{List, [], _∷_, append-nil}
 use Prim.Native.Nat.{ℕ, _+_, _-_, _≤_, _<_}
 use native.Mathlib.Omega.{arith}
+use lib.Seq.{take-all}
 use lib.ListN.{length, take, drop, drop-of-length-le}
 use Rattle.octets.specs.Bytes.{le, part, put}
 use Rattle.octets.proofs.Put.{put-eq}
@@ -89,8 +90,9 @@ module _ (r : Batched) (t : Bool) (c : t ≡ isFiled r) (p q m : List ℕ) where
   left-filed e k = let f = sym c ∙ e in k f ∙ rw f
 
   -- x is what was saved, over z
-  pub left-restored : t ≡ false → length q ≡ length p → (z x : List ℕ) → length z ≡ length p → x ≡ put z 0 p → (y : List ℕ) → y ≡ put q 0 x → y ≡ pick (isFiled r) m p
-  left-restored e l z x k d y n = let s = d ∙ put-whole z p k in n ∙ rw (s, put-whole q p l, ← c, e)
+  pub left-restored : t ≡ false → length q ≡ length p → (z x : List ℕ) → length z ≡ length p → (k : ℕ) → length p ≤ k → x ≡ put z 0 (take k p) → (y : List ℕ) → y ≡ put q 0 x
+      → y ≡ pick (isFiled r) m p
+  left-restored e l z x a k b d y n = let s = d ∙ ap (put z 0) (take-all k p b) ∙ put-whole z p a in n ∙ rw (s, put-whole q p l, ← c, e)
 
 -- ---- the page's first tests, that of the first key's length among them
 module _ (w : ℕ) (p : List ℕ) where

@@ -13,7 +13,6 @@ use crate::records;
 use edit::insert;
 use node::admit;
 use node::admit::Admitted;
-use node::header;
 use octets::number;
 use octets::runs;
 use paper::answers::Filed;
@@ -58,8 +57,7 @@ fn file_one(p: &mut [u8], width: u8, key: &[u8], value: u64) -> Filed
     if 65535 < key.len() {
         return Filed::Refused(Refusal::KeyLength);
     }
-    let h = header::read_header(p);
-    insert::insert_fit(p, h, width, key, value)
+    insert::insert_fit(p, width, key, value)
 }
 
 // The same with the record at a place of the buffer.
@@ -93,14 +91,14 @@ fn file_all(p: &mut [u8], width: u8, b: &[u8]) -> Batched
     Batched::Filed(i)
 }
 
-// All records or none: where one is refused, the page is put back.
+// All records or none: where one is refused, the page is put back. The copy's length is a literal, so that no zeros are written first.
 fn file_or_restore(p: &mut [u8], width: u8, b: &[u8]) -> Batched
     requires { ⌜ Standing width (now p) × (holdsRecords (now b) ≡ true) ⌝ }
     ensures { λ r. ⌜ r ≡ foldFrom 0 width (now (p .entry)) (recordsOf (now (b .entry))) ⌝ }
     ensures { λ r. ⌜ now (p .exit) ≡ pick (isFiled r) (pageAfter width (now (p .entry)) (recordsOf (now (b .entry)))) (now (p .entry)) ⌝ }
 {
     let mut saved = [0u8; 16384];
-    runs::copy_in(&mut saved, 0, p);
+    runs::copy_in(&mut saved, 0, &p[..16384]);
     let r = file_all(p, width, b);
     if !is_filed(r) {
         runs::copy_in(p, 0, &saved);

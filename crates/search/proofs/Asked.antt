@@ -1,5 +1,5 @@
 -- What searches ask of a header's numbers, where the page keeps the header rules. Assumes nothing.
-use mathlib.Core.Path.{_≡_}
+use mathlib.Core.Path.{_≡_, refl}
 use mathlib.Core.Bool.{true}
 use mathlib.Core.List.{List}
 use Prim.Native.Nat.{ℕ, _*_, _≤_, _<_}
@@ -33,11 +33,20 @@ module _ (p : List ℕ) (h : Header) (e : h ≡ headerOf p) (R : Rules (frameOf 
       lies : (s : Slot) → (4 < s .len → Lie (numbersOf p .end) (fencePiece s)) → LongLies 16384 s
       lies s g l = unfold fencePiece in let x = g l .1 in omega (arith, bodyBytes-long 4 (s .len) l, x)
 
+-- ---- what the test of the fences asks of a page whose rules hold
+pub inside-asked : (p : List ℕ) → Rules (frameOf p) (numbersOf p) → length p ≡ 16384
+    → (40 ≤ length p) × LongLies (length p) (headerOf p .lower) × LongLies (length p) (headerOf p .upper)
+inside-asked p R size = let f = fences-fit p (headerOf p) refl R size in (omega arith, f .0, f .1)
+
 -- ---- the numbers of a header, read from the page
 module _ (p : List ℕ) (n : ℕ) where
   pub count-read : n ≡ le 2 p 2 → n ≡ headerOf p .count
   unfolding headerOf numbersOf
   count-read e = e
+
+  pub start-read : n ≡ le 2 p 4 → n ≡ headerOf p .start
+  unfolding headerOf numbersOf
+  start-read e = e
 
   pub end-read : n ≡ le 2 p 6 → n ≡ headerOf p .end
   unfolding headerOf numbersOf

@@ -2,7 +2,7 @@
 -- keys with the same prefix are ordered by their suffixes. Assumes nothing.
 use mathlib.Core.Path.{_≡_, refl, sym, ap, _∙_}
 use mathlib.Core.Bool.{Bool, true, false}
-use mathlib.Core.List.{List, _++_}
+use mathlib.Core.List.{List, [], _∷_, _++_}
 use Prim.Native.Nat.{ℕ, _+_, _≤_, _<_}
 use borrow.Author.Tests.{lt-leb, eq-eqb, ne-eqb}
 use lib.ListN.{take, take-append-drop}
@@ -10,7 +10,7 @@ use Rattle.octets.specs.Bytes.{part, bigBytes}
 use Rattle.keys.specs.Keys.{order}
 use Rattle.keys.proofs.Orders.{order-append, sameList-eq}
 use Rattle.paper.specs.Lists.{isBelow, less}
-use Rattle.paper.specs.Page.{suffixOf, frameOf, headerOf}
+use Rattle.paper.specs.Page.{slotAt, suffixOf, frameOf, headerOf}
 use Rattle.paper.specs.Verdicts.{upperEmpty, inside}
 use Rattle.paper.specs.Searches.{probeSuffix}
 use Rattle.paper.specs.Calls.{hasPrefix}
@@ -19,7 +19,18 @@ use Rattle.paper.specs.declared.page.Header.{Header}
 use Rattle.node.proofs.Spelling.{suffix-short}
 use Rattle.search.specs.Fence.{insideBy}
 
--- ---- a fence; l is its suffix as code found it, r whether x is below it
+-- ---- a fence
+-- no key is below the empty one
+less-empty : (x : List ℕ) → false ≡ less x []
+unfolding less order isBelow
+less-empty [] = refl
+less-empty (a ∷ x) = refl
+
+pub below-empty : (p x : List ℕ) (s : Slot) → s .len ≡ 0 → false ≡ less x (suffixOf p s)
+unfolding suffixOf
+below-empty p x s e = rw e (less-empty x)
+
+-- l is its suffix as code found it, r whether x is below it
 module _ (p x l : List ℕ) (s : Slot) (r : Bool) (e : r ≡ less x l) where
   pub below-short : (v : List ℕ) → s .len ≤ 4 → v ≡ bigBytes 4 (s .head) → l ≡ take (s .len) v → r ≡ less x (suffixOf p s)
   below-short v h g k = e ∙ ap (less x) (k ∙ ap (take (s .len)) g ∙ sym (suffix-short p s h))
@@ -28,7 +39,17 @@ module _ (p x l : List ℕ) (s : Slot) (r : Bool) (e : r ≡ less x l) where
   unfolding suffixOf
   below-long h k = rw (lt-leb (s .len) 4 h) (e ∙ ap (less x) k)
 
--- ---- both fences; a and b are what was found of the lower and the upper one
+-- ---- both fences, as they were read
+module _ (p : List ℕ) (s : Slot) where
+  pub lower-read : s ≡ slotAt p 16 → s ≡ headerOf p .lower
+  unfolding headerOf frameOf
+  lower-read e = e
+
+  pub upper-read : s ≡ slotAt p 32 → s ≡ headerOf p .upper
+  unfolding headerOf frameOf
+  upper-read e = e
+
+-- a and b are what was found of the lower and the upper one
 module _ (p : List ℕ) (h : Header) (x : List ℕ) (a : Bool) (e : a ≡ less x (suffixOf p (h .lower))) where
   pub inside-below : a ≡ true → insideBy p h x ≡ false
   unfolding insideBy

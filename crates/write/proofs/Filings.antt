@@ -76,6 +76,10 @@ unfolding headerOf
 refresh-by q g e = refresh-as q (g .flag) (g .count) (ap (λ (h : Header). h .flag) e) (ap (λ (h : Header). h .count) e)
 
 -- ---- insert
+-- the header that was read has the page's room
+pub room-read : (w : ℕ) (p : List ℕ) (h : Header) (i k : ℕ) → h ≡ headerOf p → Room w p (headerOf p) i k → Room w p h i k
+room-read w p h i k e R = rw e R
+
 module _ (w : ℕ) (p : List ℕ) (h : Header) (i : ℕ) (s : List ℕ) (v : ℕ) (R : Room w p h i (length s)) (g : Header) (e : g ≡ withNumbers h (more w (numbersIn h) (length s))) where
   -- payload, slot and numbers written one after the other
   pub file-written : putAll (slotIn (put p (96 + g .end) (payloadOf w s v)) (h .count) i (slotFor s (g .end))) (numberFields (numbersIn g)) ≡ numbered w p i s v

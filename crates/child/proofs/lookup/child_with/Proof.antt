@@ -3,7 +3,7 @@ use borrow.Author.Needs.{needs}
 use mathlib.Core.Path.{refl, sym, _∙_}
 use native.Mathlib.Omega.{arith}
 use borrow.Author.Tests.{not-true, not-false}
-use Rattle.search.proofs.Asked.{prefix-fits, slots-fit, fences-fit}
+use Rattle.search.proofs.Asked.{prefix-fits, slots-fit, inside-asked}
 use Rattle.child.proofs.Served.{header-rules, child-lacks, child-outside, child-no-bound, child-few, child-found}
 use Rattle.child.proofs.lookup.child_with.Statement.{statement}
 use Rattle.child.proofs.lookup.child_with.Tie as tie
@@ -18,7 +18,7 @@ suffix-requires : tie.Need-suffix-requires
 suffix-requires c κs = search needs
 
 inside-requires : tie.Need-inside-requires
-inside-requires c κs = let pre = c .before .before .before .before .before .pre in fences-fit _ _ (pre .2) (header-rules _ (pre .0) (pre .1)) (pre .0)
+inside-requires c κs = let pre = c .before .before .before .before .before .pre in inside-asked _ (header-rules _ (pre .0) (pre .1)) (pre .0)
 
 returns-2 : tie.Need-returns-2
 returns-2 c =

@@ -3,7 +3,7 @@ use borrow.Author.Needs.{needs}
 use mathlib.Core.Path.{sym}
 use native.Mathlib.Omega.{arith}
 use borrow.Author.Tests.{not-true, not-false}
-use Rattle.search.proofs.Asked.{prefix-fits, fences-fit}
+use Rattle.search.proofs.Asked.{prefix-fits, inside-asked}
 use Rattle.edit.proofs.Changes.{header-rules, neighbours-lie, slot-lies, change-lacks, change-outside, change-absent, change-apart, change-full, change-free}
 use Rattle.edit.proofs.change.judge.Statement.{statement}
 use Rattle.edit.proofs.change.judge.Tie as tie
@@ -18,7 +18,7 @@ suffix-requires : tie.Need-suffix-requires
 suffix-requires c κs = search needs
 
 inside-requires : tie.Need-inside-requires
-inside-requires c κs = let pre = c .before .before .before .before .before .pre in fences-fit _ _ (pre .2) (header-rules _ _ (pre .0) (pre .1)) (pre .0)
+inside-requires c κs = let pre = c .before .before .before .before .before .pre in inside-asked _ (header-rules _ _ (pre .0) (pre .1)) (pre .0)
 
 returns-2 : tie.Need-returns-2
 returns-2 c =

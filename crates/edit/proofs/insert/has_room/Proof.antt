@@ -1,4 +1,4 @@
--- The need of a suffix, by its body bytes, against what the header leaves free.
+-- The need of a suffix, by its body bytes, against what start and end leave free.
 use borrow.Author.Needs.{needs}
 use Rattle.edit.proofs.Inserted.{room-is}
 use Rattle.edit.proofs.insert.has_room.Statement.{statement}
@@ -20,7 +20,7 @@ cast-result : tie.Need-cast-result
 cast-result c = search needs
 
 returns : tie.Need-returns
-returns c = room-is _ _ _ _ (c .before .body-bytes .ensures .0)
+returns c = room-is _ _ _ _ _ (c .body-bytes .ensures .0)
 
 pub has-room-spec : {M : Type 1} → statement M
 has-room-spec =

@@ -29,7 +29,7 @@ insert-at-requires : tie.Need-insert-at-requires
 insert-at-requires c κs =
     let found = c .before .before .before .before in
     let placed = found .before .before in
-    insert-room _ _ _ _ _ (sym (placed .place .ensures) ∙ found .f .given .1) _ (c .before .suffix .ensures) _ (placed .before .before .before .before .pre)
+    insert-room _ _ _ _ _ (sym (placed .place .ensures) ∙ found .f .given .1) _ (c .before .suffix .ensures) (placed .before .before .before .before .pre)
     (λ i. placed .before .before .before .slice-known .given i .fits)
 
 same-length-2 : tie.Need-same-length-2

@@ -1,10 +1,9 @@
 -- Each way out is one law: the value is too large, the key lacks the prefix or lies outside the fences, or what the search of a fit page finds.
 use borrow.Author.Needs.{needs}
-use mathlib.Core.Path.{refl, sym, _∙_}
-use native.Mathlib.Omega.{arith}
+use mathlib.Core.Path.{sym, _∙_}
 use borrow.Author.Tests.{not-true, not-false}
-use Rattle.search.proofs.Asked.{prefix-fits, slots-fit, fences-fit}
-use Rattle.edit.proofs.Testing.{tested-rules}
+use Rattle.search.proofs.Asked.{inside-asked}
+use Rattle.edit.proofs.Testing.{tested-rules, class-asked, find-asked}
 use Rattle.edit.proofs.Inserted.{room-asked, place-range, place-lacks, place-outside, place-found}
 use Rattle.edit.proofs.insert.place.Statement.{statement}
 use Rattle.edit.proofs.insert.place.Tie as tie
@@ -15,61 +14,72 @@ fits-width-requires c κs = search needs
 returns : tie.Need-returns
 returns c =
     let fits = c .before .fits-width in
-    sym (place-range _ _ _ _ _ (c .before .before .before .before .pre) _ (fits .ensures) (not-true (fits .result) (c .if1 .taken)))
+    sym (place-range _ _ _ _ (c .before .before .before .before .pre) _ (fits .ensures) (not-true (fits .result) (c .if1 .taken)))
+
+read-u16-requires : tie.Need-read-u16-requires
+read-u16-requires c κs = search needs
 
 class-requires : tie.Need-class-requires
-class-requires c κs =
-    let T = c .before .before .before .before .pre in
-    (omega (arith, T .size), prefix-fits _ _ (T .header) (tested-rules _ _ _ _ T))
+class-requires c κs = class-asked _ _ _ (c .before .before .before .before .before .pre) _ (c .read-u16 .ensures)
 
 returns-2 : tie.Need-returns-2
 returns-2 c =
-    let valued = c .before .before in
+    let classed = c .before in
+    let valued = classed .before .before in
     let fits = valued .before .fits-width in
     sym
-    (place-lacks _ _ _ _ _ (valued .before .before .before .before .pre) _ (fits .ensures) (not-false (fits .result) (valued .if1 .left)) _ (c .before .class .ensures)
+    (place-lacks _ _ _ _ (valued .before .before .before .before .pre) _ (fits .ensures) (not-false (fits .result) (valued .if1 .left)) _ (classed .before .read-u16 .ensures) _ (classed .class .ensures)
     (c .if2 .taken))
 
 suffix-requires : tie.Need-suffix-requires
-suffix-requires c κs = let T = c .before .before .before .before .before .before .pre in omega (arith, T .size)
+suffix-requires c κs = search needs
 
 inside-requires : tie.Need-inside-requires
-inside-requires c κs = let T = c .before .before .before .before .before .before .before .pre in fences-fit _ _ (T .header) (tested-rules _ _ _ _ T) (T .size)
+inside-requires c κs = let T = c .before .before .before .before .before .before .before .before .pre in inside-asked _ (tested-rules _ _ _ T) (T .size)
 
 returns-3 : tie.Need-returns-3
 returns-3 c =
     let cut = c .before .before in
-    let valued = cut .before .before .before in
+    let classed = cut .before .before in
+    let valued = classed .before .before in
     let fits = valued .before .fits-width in
     let inside = c .before .inside in
     sym
-    (place-outside _ _ _ _ _ (valued .before .before .before .before .pre) _ (fits .ensures) (not-false (fits .result) (valued .if1 .left)) _
-    (cut .before .before .class .ensures) (cut .before .if2 .left) _ (cut .suffix .ensures) _ (inside .ensures) (not-true (inside .result) (c .if3 .taken)))
+    (place-outside _ _ _ _ (valued .before .before .before .before .pre) _ (fits .ensures) (not-false (fits .result) (valued .if1 .left)) _ (classed .before .read-u16 .ensures) _
+    (classed .class .ensures) (cut .before .if2 .left) _ (cut .suffix .ensures) _ (inside .ensures) (not-true (inside .result) (c .if3 .taken)))
+
+read-u16-requires-2 : tie.Need-read-u16-requires-2
+read-u16-requires-2 c κs = search needs
+
+read-u16-requires-3 : tie.Need-read-u16-requires-3
+read-u16-requires-3 c κs = search needs
 
 has-room-requires : tie.Need-has-room-requires
-has-room-requires c κs = let cut = c .before .before in room-asked _ _ _ _ (cut .before .before .before .before .before .before .before .pre) _ (cut .suffix .ensures)
+has-room-requires c κs =
+    let cut = c .before .before .before .before in
+    room-asked _ _ _ (cut .before .before .before .before .before .before .before .before .pre) _ (c .before .read-u162 .ensures) _ (c .read-u163 .ensures) _ (cut .suffix .ensures)
 
 find-at-requires : tie.Need-find-at-requires
-find-at-requires c κs =
-    let T = c .before .before .before .before .before .before .before .before .before .before .pre in
-    (omega (arith, T .size), slots-fit _ _ refl (tested-rules _ _ _ _ T))
+find-at-requires c κs = find-asked _ _ _ (c .before .before .before .before .before .before .before .before .before .before .before .before .before .pre)
 
 place-by-requires : tie.Need-place-by-requires
 place-by-requires c κs = search needs
 
 returns-4 : tie.Need-returns-4
 returns-4 c =
-    let seen = c .before .before .before in
+    let sized = c .before .before .before in
+    let seen = sized .before .before in
     let cut = seen .before .before in
-    let valued = cut .before .before .before in
-    let fits = valued .before .fits-width in
+    let classed = cut .before .before in
+    let valued = classed .before .before in
     let keyed = valued .before .before in
+    let fits = valued .before .fits-width in
     let inside = seen .before .inside in
     c .place-by .ensures
     ∙ sym
-    (place-found _ _ _ _ _ (keyed .before .before .pre) _ (fits .ensures) (not-false (fits .result) (valued .if1 .left)) _ (cut .before .before .class .ensures)
-    (cut .before .if2 .left) _ (cut .suffix .ensures) _ (inside .ensures) (not-false (inside .result) (seen .if3 .left)) _ (c .before .before .has-room .ensures)
-    (λ i. keyed .before .shared-slice-known .given i .fits) (λ i. keyed .shared-slice-known2 .given i .fits) _ (c .before .find-at .ensures))
+    (place-found _ _ _ _ (keyed .before .before .pre) _ (fits .ensures) (not-false (fits .result) (valued .if1 .left)) _ (classed .before .read-u16 .ensures) _ (classed .class .ensures)
+    (cut .before .if2 .left) _ (cut .suffix .ensures) _ (inside .ensures) (not-false (inside .result) (seen .if3 .left)) _ (sized .before .read-u162 .ensures) _ (sized .read-u163 .ensures) _
+    (c .before .before .has-room .ensures) (λ i. keyed .before .shared-slice-known .given i .fits) (λ i. keyed .shared-slice-known2 .given i .fits) _ (c .before .find-at .ensures))
 
 pub place-spec : {M : Type 1} → statement M
 place-spec =
@@ -77,11 +87,14 @@ place-spec =
     (tie.spec
     fits-width-requires
     returns
+    read-u16-requires
     class-requires
     returns-2
     suffix-requires
     inside-requires
     returns-3
+    read-u16-requires-2
+    read-u16-requires-3
     has-room-requires
     find-at-requires
     place-by-requires

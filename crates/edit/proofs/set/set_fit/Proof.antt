@@ -31,7 +31,7 @@ set-at-requires : tie.Need-set-at-requires
 set-at-requires c κs =
     let found = c .before .before in
     let judged = found .before .before in
-    set-asked _ _ _ _ _ _ (sym (judged .find-held .ensures) ∙ found .f .given .1) _ (judged .before .before .before .before .pre)
+    set-asked _ _ _ _ _ _ (sym (judged .find-held .ensures) ∙ found .f .given .1) (judged .before .before .before .before .pre)
     (λ i. judged .before .before .before .slice-known .given i .fits)
 
 same-length-2 : tie.Need-same-length-2
