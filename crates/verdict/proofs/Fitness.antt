@@ -55,18 +55,18 @@ module _ (w : ℕ) (p : List ℕ) where
       go a b c d true = refl
       go a b c d false = refl
 
-  -- ---- the header of a page that is fit; u is what the verdict said of the header that was read
-  module _ (h : Header) (e : h ≡ headerOf p) (u : ℕ) (v : u ≡ fitWith w p h) where
+  -- ---- the header of a page that is fit; u is what the verdict said of the page
+  module _ (u : ℕ) (v : u ≡ fitWith w p (headerOf p)) where
     pub found : u ≡ fitOf w p
-    found = v ∙ rw e (sym fit-is)
+    found = v ∙ sym fit-is
 
     pub unfit-header : (u ≡ 0 → ⊥) → fitHeaderOf w p ≡ Admitted·Refused (NotFit u)
     unfolding fitHeaderOf judge
     unfit-header k = rw (← found, ne-eqb u 0 k)
 
-    pub fit-header : u ≡ 0 → fitHeaderOf w p ≡ Admitted·Is h
+    pub fit-header : (h : Header) → h ≡ headerOf p → u ≡ 0 → fitHeaderOf w p ≡ Admitted·Is h
     unfolding fitHeaderOf judge
-    fit-header k = rw (← found, eq-eqb u 0 k, ← e)
+    fit-header h e k = rw (← found, eq-eqb u 0 k, ← e)
 
   -- ---- 1, 2, 3, 5; n is the key's length
   module _ (n : ℕ) where

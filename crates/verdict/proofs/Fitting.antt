@@ -19,6 +19,10 @@ use Rattle.verdict.proofs.Broken.{broken, kept}
 pub passes : (x y : Bool) → x ≡ y → not x ≡ false → y ≡ true
 passes x y e h = sym e ∙ not-false x h
 
+-- what is said of a header that was read is said of the page's own
+pub fit-at : (w : ℕ) (p : List ℕ) (h k : Header) (u : ℕ) → h ≡ k → u ≡ fitWith w p h → u ≡ fitWith w p k
+fit-at w p h k u e v = rw e at v
+
 module _ (w : ℕ) (p : List ℕ) (h : Header) where
   abbrev tally : Tally
   tally = tallyOf w p h (h .count)

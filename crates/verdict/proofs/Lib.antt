@@ -8,3 +8,5 @@ pub mod Judged
 pub mod Broken
 pub mod Fitting
 pub mod Fitness
+pub mod Starting
+pub mod Sweeping

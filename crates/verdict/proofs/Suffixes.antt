@@ -1,29 +1,31 @@
 -- Suffixes of slots: the head that a suffix has as code finds it, the slot that has this head, and which of two suffixes is below.
 -- Assumes nothing.
 use mathlib.Core.Path.{_≡_, refl, sym, ap, _∙_}
-use mathlib.Core.Bool.{Bool, false}
+use mathlib.Core.Bool.{Bool, true, false, not, _||_}
 use mathlib.Core.Logic.{_⊎_, inl, inr, ⊎-elim}
 use mathlib.Core.List.{List}
-use Prim.Native.Nat.{ℕ, _+_, _*_, _/_, _^_, _≤_, _<_}
+use Prim.Native.Nat.{ℕ, _+_, _-_, _*_, _/_, _^_, _≤_, _<_}
 use native.Mathlib.Decide.{decLe}
 use native.Mathlib.Omega.{arith}
-use borrow.Author.Tests.{lt-ltb, le-ltb, lt-leb}
-use lib.Dec.{ltb}
-use lib.ListN.{length, take}
-use Rattle.octets.specs.Bytes.{IsBytes, be, part, bigBytes}
+use borrow.Author.Tests.{lt-ltb, le-ltb, lt-leb, ltb-true, ltb-false, eqb-true}
+use lib.Dec.{ltb, eqb}
+use lib.ListN.{length, take, drop, length-take, length-drop}
+use Rattle.octets.specs.Bytes.{IsBytes, le, be, part, bigBytes}
 use Rattle.octets.proofs.Alike.{be-part}
 use Rattle.octets.proofs.Put.{take-bytes}
 use Rattle.octets.proofs.Part.{length-part-le}
 use Rattle.octets.proofs.Big.{bigBytes-bytes, bigBytes-be}
-use Rattle.keys.specs.Keys.{byNumber, headOf}
+use Rattle.keys.specs.Keys.{byNumber, common, headOf}
 use Rattle.keys.specs.declared.order.Order.the-variants.{Same}
 use Rattle.keys.proofs.Numbers.{tri, byNumber-lt, byNumber-eq, byNumber-gt}
 use Rattle.keys.proofs.Heads.{head-differ, head-lengths}
+use Rattle.keys.proofs.Words.{word-out}
 use Rattle.paper.specs.Lists.{isBelow, less}
-use Rattle.paper.specs.Page.{suffixOf}
+use Rattle.paper.specs.Page.{slotAt, suffixOf}
 use Rattle.paper.specs.declared.page.Slot.{Slot}
+use Rattle.paper.proofs.Sorted.{never, order-less}
 use Rattle.paper.proofs.CopyingCall.{suffix-bytes}
-use Rattle.node.proofs.Spelling.{suffix-short, length-four}
+use Rattle.node.proofs.Spelling.{suffix-short, suffix-long, length-four}
 use Rattle.verdict.specs.Honest.{Honest}
 use Rattle.verdict.specs.Tally.{honestOf}
 
@@ -133,3 +135,40 @@ module _ (p : List ℕ) (bytes : IsBytes p) (a b : Slot) (la : a .head < 256 ^ 4
 pub below-bytes : (p x y : List ℕ) (a b : Slot) (t : Bool) → x ≡ suffixOf p a → y ≡ suffixOf p b → t ≡ less x y
     → t ≡ less (suffixOf p a) (suffixOf p b)
 below-bytes p x y a b t ex ey e = rw (← ex, ← ey) e
+
+-- words at a place up to which two keys agree
+pub word-less : (a b : List ℕ) → IsBytes a → IsBytes b → (i x y : ℕ) → x ≡ be 8 a i → y ≡ be 8 b i → i ≤ common a b → i + 8 ≤ length a → i + 8 ≤ length b
+    → ltb x y ≡ true → less a b ≡ true
+word-less a b ha hb i x y p q c h k l =
+    let z = ltb-true x y l in
+    order-less a b (sym (word-out a b ha hb 8 i x y p q (λ e. omega arith) c h k) ∙ byNumber-lt x y Same z)
+
+-- ---- the slot before
+pub alike-long : (x n : ℕ) → (not (eqb x n) || ltb n 16) ≡ false → (x ≡ n) × (16 ≤ n)
+alike-long x n e = go (eqb x n) refl e
+  where
+    go : (t : Bool) → eqb x n ≡ t → (not t || ltb n 16) ≡ false → (x ≡ n) × (16 ≤ n)
+    go true q f = (eqb-true x n q, ltb-false n 16 f)
+    go false q f = never true refl f
+
+pub honest-same : (p : List ℕ) (s t : Slot) → s ≡ t → Honest p t → Honest p s
+honest-same p s t e h = rw e h
+
+pub below-same : (p : List ℕ) (s t b : Slot) (x : Bool) → s ≡ t → x ≡ less (suffixOf p s) (suffixOf p b) → x ≡ true → less (suffixOf p t) (suffixOf p b) ≡ true
+below-same p s t b x e f r = rw (← e) (sym f ∙ r)
+
+pub part-long : (p : List ℕ) (i n : ℕ) → i + n ≤ length p → n ≤ length (take (i + n - i) (drop i p))
+part-long p i n h = rw (length-take (i + n - i) (drop i p), length-drop i p) (omega arith)
+
+-- the slot before has the length of this one, and x is where its suffix stands
+pub long-room : (p : List ℕ) (at x n m : ℕ) → x ≡ le 2 p (at + 2) → n ≡ le 2 p at → n ≡ m → 16 ≤ m → Honest p (slotAt p at) → 96 + x + m ≤ length p
+long-room p at x n m ex en eb l H = let r = H .room (omega arith) in omega arith
+
+-- two long suffixes of one length, of which x is where the first stands
+pub below-words : (p : List ℕ) (at : ℕ) (b : Slot) (x n : ℕ) (y : Bool) → x ≡ le 2 p (at + 2) → n ≡ le 2 p at → n ≡ b .len → 16 ≤ b .len
+    → (y ≡ true → less (take (96 + x + b .len - (96 + x)) (drop (96 + x) p)) (take (96 + b .offset + b .len - (96 + b .offset)) (drop (96 + b .offset) p)) ≡ true)
+    → y ≡ true → less (suffixOf p (slotAt p at)) (suffixOf p b) ≡ true
+below-words p at b x n y ex en eb l f r =
+    let e : b .len ≡ le 2 p at = sym eb ∙ en in
+    let ea : take (96 + x + b .len - (96 + x)) (drop (96 + x) p) ≡ suffixOf p (slotAt p at) = rw (ex, e) (suffix-long p (slotAt p at) (omega arith)) in
+    sym (below-bytes p _ _ (slotAt p at) b true ea (suffix-long p b (omega arith)) (sym (f r)))

@@ -39,12 +39,12 @@ both-end true = refl
 both-end false = refl
 
 module _ {A : Type 0} where
-  all-more : (g : A → Bool) (n : ℕ) (f : ℕ → A) → all g (tab (suc n) f) ≡ both (all g (tab n f)) (g (f n))
+  pub all-more : (g : A → Bool) (n : ℕ) (f : ℕ → A) → all g (tab (suc n) f) ≡ both (all g (tab n f)) (g (f n))
   unfolding all tab
   all-more g zero f = both-end (g (f 0))
   all-more g (suc n) f = ap (both (g (f 0))) (all-more g n (λ j. f (suc j))) ∙ both-assoc (g (f 0)) (all g (tab n (λ j. f (suc j)))) (g (f (suc n)))
 
-  sum-more : (g : A → ℕ) (n : ℕ) (f : ℕ → A) → sum g (tab (suc n) f) ≡ sum g (tab n f) + g (f n)
+  pub sum-more : (g : A → ℕ) (n : ℕ) (f : ℕ → A) → sum g (tab (suc n) f) ≡ sum g (tab n f) + g (f n)
   unfolding sum tab
   sum-more g zero f = omega arith
   sum-more g (suc n) f = let next = sum-more g n (λ j. f (suc j)) in omega arith
@@ -69,7 +69,7 @@ fenced-is a b x y high e f = rw (e, f) (ap (both (not x)) (or-pick (eqb (high .l
     or-pick false z = refl
 
 -- rising, where b compares with the entry before
-rising-next : (n : ℕ) (f : ℕ → List ℕ) (b : Bool) → (0 < n → b ≡ less (f (n - 1)) (f n)) → rising (tab n f) && (eqb n 0 || b) ≡ rising (tab (suc n) f)
+pub rising-next : (n : ℕ) (f : ℕ → List ℕ) (b : Bool) → (0 < n → b ≡ less (f (n - 1)) (f n)) → rising (tab n f) && (eqb n 0 || b) ≡ rising (tab (suc n) f)
 unfolding rising belowFirst tab
 rising-next zero f b e = refl
 rising-next (suc n) f b e =

@@ -42,7 +42,7 @@ fn free_words(map: &[u8], a: usize, b: usize) -> bool
 }
 
 // The same by the form that suits the length.
-fn free(map: &[u8], a: usize, b: usize) -> bool
+pub(crate) fn free(map: &[u8], a: usize, b: usize) -> bool
     requires { ⌜ (a < b) × (b ≤ length (now map)) ⌝ }
     ensures { λ r. ⌜ (r ≡ true → Free (now (map .entry)) a b) ⌝ }
 {

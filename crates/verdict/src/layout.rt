@@ -1,15 +1,17 @@
 // The layout verdict.
 ghost use mathlib.Core.Path.{_≡_};
-ghost use mathlib.Core.Bool.{true};
+ghost use mathlib.Core.Bool.{true, false};
 ghost use Prim.Native.Nat.{_≤_};
 ghost use lib.ListN.{length};
 ghost use Rattle.paper.specs.Calls.{layoutVerdict};
 ghost use Rattle.node.specs.Header.{rulesOf};
-ghost use Rattle.verdict.specs.Pieces.{heldWith};
-ghost use Rattle.verdict.specs.Fits.{emptyLeafWith, orderWith, layoutWith};
+ghost use Rattle.keys.specs.Choice.{both};
+ghost use Rattle.verdict.specs.Tally.{fencesRiseWith};
+ghost use Rattle.verdict.specs.Fits.{emptyLeafWith, layoutWith};
 use crate::overlap;
 use crate::pieces;
 use crate::rules;
+use crate::sweep;
 use crate::tally;
 use node::admit;
 use node::header;
@@ -24,16 +26,30 @@ fn empty_leaf(h: Header) -> bool
     (h.height == 0) & (h.count == 0)
 }
 
-// Whether the fences rise, and the keys within them.
-fn in_order(p: &[u8], h: Header, width: u8) -> bool
-    requires { ⌜ (16384 ≤ length (now p)) × (rulesOf h ≡ true) × (heldWith width (now p) h ≡ true) ⌝ }
-    ensures { λ r. ⌜ r ≡ orderWith width (now (p .entry)) h ⌝ }
+// Whether the fences rise, and the keys within them, by what the tally of all entries says of both.
+fn in_order(p: &[u8], h: Header, inside: bool, rising: bool) -> bool
+    requires { ⌜ (16384 ≤ length (now p)) × (rulesOf h ≡ true) ⌝ }
+    ensures { λ r. ⌜ r ≡ both (both (fencesRiseWith (now (p .entry)) h) inside) rising ⌝ }
 {
-    let t = tally::tally_entries(p, h, width);
-    rules::fences_rise(p, h) & t.inside & t.rising
+    rules::fences_rise(p, h) & inside & rising
 }
 
-// Whether the layout of a page with this header is right.
+// Whether the layout of a page is right whose header keeps the rules and is no empty leaf's: rule by rule.
+fn right_by_rule(p: &[u8], h: Header, width: u8) -> bool
+    requires { ⌜ (16384 ≤ length (now p)) × (rulesOf h ≡ true) × (emptyLeafWith h ≡ false) ⌝ }
+    ensures { λ r. ⌜ r ≡ layoutWith width (now (p .entry)) h ⌝ }
+{
+    if !pieces::payloads_held(p, h, width) {
+        return false;
+    }
+    if !overlap::disjoint(p, h, width) {
+        return false;
+    }
+    let t = tally::tally_entries(p, h, width);
+    in_order(p, h, t.inside, t.rising)
+}
+
+// Whether the layout of a page with this header is right. Most pages are swept once.
 fn layout_right(p: &[u8], h: Header, width: u8) -> bool
     requires { ⌜ 16384 ≤ length (now p) ⌝ }
     ensures { λ r. ⌜ r ≡ layoutWith width (now (p .entry)) h ⌝ }
@@ -44,13 +60,12 @@ fn layout_right(p: &[u8], h: Header, width: u8) -> bool
     if empty_leaf(h) {
         return false;
     }
-    if !pieces::payloads_held(p, h, width) {
-        return false;
+    let needs = sweep::sweep(p, h, width);
+    if needs == 4294967295 {
+        return right_by_rule(p, h, width);
     }
-    if !overlap::disjoint(p, h, width) {
-        return false;
-    }
-    in_order(p, h, width)
+    let inside = sweep::ends_fenced(p, h, width);
+    in_order(p, h, inside, true)
 }
 
 // The layout verdict: 1 yes, 0 no. Refuses 1, 2.

@@ -36,7 +36,7 @@ pub fn payloads_held(p: &[u8], h: Header, width: u8) -> bool
 }
 
 // The payload of entry `i`.
-fn payload(p: &[u8], width: u8, i: usize) -> Extent
+pub(crate) fn payload(p: &[u8], width: u8, i: usize) -> Extent
     requires { ⌜ (16384 ≤ length (now p)) × (8 * i ≤ 16248) ⌝ }
     ensures { λ r. ⌜ (r .lo ≡ slotPayload width (slotOf (now (p .entry)) i) .lo) × (r .hi ≡ slotPayload width (slotOf (now (p .entry)) i) .hi) ⌝ }
 {

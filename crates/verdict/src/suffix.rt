@@ -33,7 +33,7 @@ fn kept(head: u32, n: u16) -> u32
 }
 
 // The head of a slot's suffix, whatever head the slot has.
-fn true_head(p: &[u8], s: Slot) -> u32
+pub(crate) fn true_head(p: &[u8], s: Slot) -> u32
     requires { ⌜ (4 < s .len → 96 + s .offset + s .len ≤ length (now p)) ⌝ }
     ensures { λ r. ⌜ (r ≡ headOf (suffixOf (now (p .entry)) s)) × (s .head < 256 ^ 4) ⌝ }
 {

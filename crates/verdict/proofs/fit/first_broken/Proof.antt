@@ -1,54 +1,57 @@
--- The first test that fails gives its number; where the first three hold, the keys decide.
+-- A header that breaks the rules is told at once. On a page that was swept U2 and U3 hold, and the keys decide.
 use borrow.Author.Needs.{needs}
-use mathlib.Core.Path.{sym, _∙_}
-use Rattle.verdict.proofs.Fitting.{passes, fit-1, fit-2, fit-3, fit-keys}
+use native.Mathlib.Omega.{arith}
+use mathlib.Core.Path.{refl, sym, _∙_}
+use Rattle.verdict.proofs.Fitting.{passes, fit-at, keys-with, fit-1, fit-keys}
+use Rattle.verdict.proofs.Sweeping.{tally-swept}
 use Rattle.verdict.proofs.fit.first_broken.Statement.{statement}
 use Rattle.verdict.proofs.fit.first_broken.Tie as tie
+
+read-header-requires : tie.Need-read-header-requires
+read-header-requires c κs = search needs
 
 rules-hold-requires : tie.Need-rules-hold-requires
 rules-hold-requires c κs = search needs
 
 returns : tie.Need-returns
-returns c = sym (fit-1 _ _ _ _ (c .before .rules-hold .ensures) (c .if1 .taken))
+returns c = fit-at _ _ _ _ _ (c .before .before .read-header .ensures) (sym (fit-1 _ _ _ _ (c .before .rules-hold .ensures) (c .if1 .taken)))
 
-payloads-held-requires : tie.Need-payloads-held-requires
-payloads-held-requires c κs = (c .before .before .before .pre, passes _ _ (c .before .rules-hold .ensures) (c .if1 .left))
+sweep-requires : tie.Need-sweep-requires
+sweep-requires c κs = (c .before .before .before .before .pre, passes _ _ (c .before .rules-hold .ensures) (c .if1 .left))
+
+first-by-rule-requires : tie.Need-first-by-rule-requires
+first-by-rule-requires c κs = (c .before .before .before .before .before .before .pre, passes _ _ (c .before .before .before .rules-hold .ensures) (c .before .before .if1 .left))
 
 returns-2 : tie.Need-returns-2
-returns-2 c = sym (fit-2 _ _ _ _ (c .before .before .before .rules-hold .ensures) _ (c .before .payloads-held .ensures) (c .before .before .if1 .left) (c .if2 .taken))
+returns-2 c = fit-at _ _ _ _ _ (c .before .before .before .before .before .read-header .ensures) (c .first-by-rule .ensures)
 
-disjoint-requires : tie.Need-disjoint-requires
-disjoint-requires c κs = (c .before .before .before .before .before .pre, passes _ _ (c .before .before .before .rules-hold .ensures) (c .before .before .if1 .left), passes _ _ (c .before .payloads-held .ensures) (c .if2 .left))
+ends-fenced-requires : tie.Need-ends-fenced-requires
+ends-fenced-requires c κs =
+    let sound = c .before .sweep .ensures (omega arith) in
+    (c .before .before .before .before .before .before .pre, passes _ _ (c .before .before .before .rules-hold .ensures) (c .before .before .if1 .left), sound .held, sound .rising)
+
+first-of-keys-requires : tie.Need-first-of-keys-requires
+first-of-keys-requires c κs = (c .before .before .before .before .before .before .before .pre, passes _ _ (c .before .before .before .before .rules-hold .ensures) (c .before .before .before .if1 .left))
 
 returns-3 : tie.Need-returns-3
 returns-3 c =
-    let two = c .before .before in
-    let one = two .before .before in
-    sym (fit-3 _ _ _ _ (one .before .rules-hold .ensures) _ (two .before .payloads-held .ensures) (one .if1 .left) _ (c .before .disjoint .ensures) (two .if2 .left) (c .if3 .taken))
-
-first-of-keys-requires : tie.Need-first-of-keys-requires
-first-of-keys-requires c κs =
-    let two = c .before .before in
-    let one = two .before .before in
-    (one .before .before .before .pre, passes _ _ (one .before .rules-hold .ensures) (one .if1 .left), passes _ _ (two .before .payloads-held .ensures) (two .if2 .left))
-
-returns-4 : tie.Need-returns-4
-returns-4 c =
-    let three = c .before in
-    let two = three .before .before in
-    let one = two .before .before in
-    c .first-of-keys .ensures
-    ∙ sym (fit-keys _ _ _ _ (one .before .rules-hold .ensures) _ (two .before .payloads-held .ensures) (one .if1 .left) _ (three .before .disjoint .ensures) (two .if2 .left) (three .if3 .left))
+    let sound = c .before .before .before .sweep .ensures (omega arith) in
+    let rules = c .before .before .before .before .before in
+    fit-at _ _ _ _ _ (rules .before .read-header .ensures)
+    (c .first-of-keys .ensures
+    ∙ sym (keys-with _ _ _ _ (tally-swept _ _ _ _ _ sound (c .before .ends-fenced .ensures)))
+    ∙ sym (fit-keys _ _ _ _ (rules .rules-hold .ensures) _ (sym (sound .held)) (c .before .before .before .before .if1 .left) _ (sym (sound .disjoint)) refl refl))
 
 pub first-broken-spec : {M : Type 1} → statement M
 first-broken-spec =
     tie.close
     (tie.spec
+    read-header-requires
     rules-hold-requires
     returns
-    payloads-held-requires
+    sweep-requires
+    first-by-rule-requires
     returns-2
-    disjoint-requires
-    returns-3
+    ends-fenced-requires
     first-of-keys-requires
-    returns-4)
+    returns-3)

@@ -5,17 +5,17 @@ use Rattle.verdict.proofs.Fitness.{unfit-header, fit-header}
 use Rattle.verdict.proofs.fit.fit_header.Statement.{statement}
 use Rattle.verdict.proofs.fit.fit_header.Tie as tie
 
-read-header-requires : tie.Need-read-header-requires
-read-header-requires c κs = search needs
-
 first-broken-requires : tie.Need-first-broken-requires
 first-broken-requires c κs = search needs
 
 returns : tie.Need-returns
-returns c = sym (unfit-header _ _ _ (c .before .before .read-header .ensures) _ (c .before .first-broken .ensures) (c .if1 .taken))
+returns c = sym (unfit-header _ _ _ (c .before .first-broken .ensures) (c .if1 .taken))
+
+read-header-requires : tie.Need-read-header-requires
+read-header-requires c κs = search needs
 
 returns-2 : tie.Need-returns-2
-returns-2 c = sym (fit-header _ _ _ (c .before .before .read-header .ensures) _ (c .before .first-broken .ensures) (c .if1 .left))
+returns-2 c = sym (fit-header _ _ _ (c .before .before .first-broken .ensures) _ (c .read-header .ensures) (c .before .if1 .left))
 
 pub fit-header-spec : {M : Type 1} → statement M
-fit-header-spec = tie.close (tie.spec read-header-requires first-broken-requires returns returns-2)
+fit-header-spec = tie.close (tie.spec first-broken-requires returns read-header-requires returns-2)

@@ -18,22 +18,18 @@ returns-2 : tie.Need-returns-2
 unfolding fitVerdict judge
 returns-2 c = rw (eq-eqb _ _ (c .before .before .if1 .left), ← c .before .known-width .ensures, not-true (c .before .known-width .result) (c .if2 .taken))
 
-read-header-requires : tie.Need-read-header-requires
-read-header-requires c κs = search needs
-
 first-broken-requires : tie.Need-first-broken-requires
 first-broken-requires c κs = search needs
 
 returns-3 : tie.Need-returns-3
 unfolding fitVerdict judge
 returns-3 c =
-    let h = c .before in
-    let width = h .before in
+    let width = c .before in
     rw (
       eq-eqb _ _ (width .before .before .if1 .left),
       ← width .before .known-width .ensures,
       not-false (width .before .known-width .result) (width .if2 .left),
-      ← found _ _ _ (h .read-header .ensures) _ (c .first-broken .ensures),
+      ← found _ _ _ (c .first-broken .ensures),
     )
 
 pub fit-verdict-spec : {M : Type 1} → statement M
@@ -43,6 +39,5 @@ fit-verdict-spec =
     returns
     known-width-requires
     returns-2
-    read-header-requires
     first-broken-requires
     returns-3)

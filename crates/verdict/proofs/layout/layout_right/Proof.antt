@@ -1,7 +1,10 @@
--- The first test that fails says no; where all hold, the order of the keys decides.
+-- A header that breaks the rules or is that of an empty leaf is told at once. On a page that was swept U2 and U3 hold, and the order of
+-- the keys decides.
 use borrow.Author.Needs.{needs}
-use mathlib.Core.Path.{sym, _∙_}
-use Rattle.verdict.proofs.Fitting.{passes, layout-1, layout-0, layout-2, layout-3, layout-order}
+use native.Mathlib.Omega.{arith}
+use mathlib.Core.Path.{refl, sym, _∙_}
+use Rattle.verdict.proofs.Fitting.{passes, order-with, layout-1, layout-0, layout-order}
+use Rattle.verdict.proofs.Sweeping.{tally-swept}
 use Rattle.verdict.proofs.layout.layout_right.Statement.{statement}
 use Rattle.verdict.proofs.layout.layout_right.Tie as tie
 
@@ -17,41 +20,29 @@ empty-leaf-requires c κs = search needs
 returns-2 : tie.Need-returns-2
 returns-2 c = sym (layout-0 _ _ _ _ (c .before .before .before .rules-hold .ensures) _ (c .before .empty-leaf .ensures) (c .before .before .if1 .left) (c .if2 .taken))
 
-payloads-held-requires : tie.Need-payloads-held-requires
-payloads-held-requires c κs = let one = c .before .before in (one .before .before .before .pre, passes _ _ (one .before .rules-hold .ensures) (one .if1 .left))
+sweep-requires : tie.Need-sweep-requires
+sweep-requires c κs = (c .before .before .before .before .before .pre, passes _ _ (c .before .before .before .rules-hold .ensures) (c .before .before .if1 .left))
+
+right-by-rule-requires : tie.Need-right-by-rule-requires
+right-by-rule-requires c κs = (c .before .before .before .before .before .before .before .pre, passes _ _ (c .before .before .before .before .before .rules-hold .ensures) (c .before .before .before .before .if1 .left), sym (c .before .before .before .empty-leaf .ensures) ∙ c .before .before .if2 .left)
 
 returns-3 : tie.Need-returns-3
-returns-3 c =
-    let empty = c .before .before in
-    let one = empty .before .before in
-    sym (layout-2 _ _ _ _ (one .before .rules-hold .ensures) _ (empty .before .empty-leaf .ensures) (one .if1 .left) _ (c .before .payloads-held .ensures) (empty .if2 .left) (c .if3 .taken))
+returns-3 c = c .right-by-rule .ensures
 
-disjoint-requires : tie.Need-disjoint-requires
-disjoint-requires c κs =
-    let one = c .before .before .before .before in
-    (one .before .before .before .pre, passes _ _ (one .before .rules-hold .ensures) (one .if1 .left), passes _ _ (c .before .payloads-held .ensures) (c .if3 .left))
+ends-fenced-requires : tie.Need-ends-fenced-requires
+ends-fenced-requires c κs =
+    let sound = c .before .sweep .ensures (omega arith) in
+    (c .before .before .before .before .before .before .before .pre, passes _ _ (c .before .before .before .before .before .rules-hold .ensures) (c .before .before .before .before .if1 .left), sound .held, sound .rising)
+
+in-order-requires : tie.Need-in-order-requires
+in-order-requires c κs = (c .before .before .before .before .before .before .before .before .pre, passes _ _ (c .before .before .before .before .before .before .rules-hold .ensures) (c .before .before .before .before .before .if1 .left))
 
 returns-4 : tie.Need-returns-4
 returns-4 c =
-    let two = c .before .before in
-    let empty = two .before .before in
-    let one = empty .before .before in
-    sym (layout-3 _ _ _ _ (one .before .rules-hold .ensures) _ (empty .before .empty-leaf .ensures) (one .if1 .left) _ (two .before .payloads-held .ensures) (empty .if2 .left) _ (c .before .disjoint .ensures) (two .if3 .left) (c .if4 .taken))
-
-in-order-requires : tie.Need-in-order-requires
-in-order-requires c κs =
-    let two = c .before .before in
-    let empty = two .before .before in
-    let one = empty .before .before in
-    (one .before .before .before .pre, passes _ _ (one .before .rules-hold .ensures) (one .if1 .left), passes _ _ (two .before .payloads-held .ensures) (two .if3 .left))
-
-returns-5 : tie.Need-returns-5
-returns-5 c =
-    let two = c .before .before .before in
-    let empty = two .before .before in
-    let one = empty .before .before in
+    let sound = c .before .before .before .sweep .ensures (omega arith) in
     c .in-order .ensures
-    ∙ sym (layout-order _ _ _ _ (one .before .rules-hold .ensures) _ (empty .before .empty-leaf .ensures) (one .if1 .left) _ (two .before .payloads-held .ensures) (empty .if2 .left) _ (c .before .before .disjoint .ensures) (two .if3 .left) (c .before .if4 .left))
+    ∙ sym (order-with _ _ _ _ (tally-swept _ _ _ _ _ sound (c .before .ends-fenced .ensures)) _ refl)
+    ∙ sym (layout-order _ _ _ _ (c .before .before .before .before .before .before .before .rules-hold .ensures) _ (c .before .before .before .before .before .empty-leaf .ensures) (c .before .before .before .before .before .before .if1 .left) _ (sym (sound .held)) (c .before .before .before .before .if2 .left) _ (sym (sound .disjoint)) refl refl)
 
 pub layout-right-spec : {M : Type 1} → statement M
 layout-right-spec =
@@ -61,9 +52,9 @@ layout-right-spec =
     returns
     empty-leaf-requires
     returns-2
-    payloads-held-requires
+    sweep-requires
+    right-by-rule-requires
     returns-3
-    disjoint-requires
-    returns-4
+    ends-fenced-requires
     in-order-requires
-    returns-5)
+    returns-4)
