@@ -12,7 +12,7 @@ pub struct Table {
     pub lines: Vec<Line>,
 }
 
-/// What stands beside a call, and the order's bound for ours divided by it.
+/// What stands beside a call, and the bound that was set for ours divided by it.
 struct Beside {
     name: &'static str,
     what: String,
@@ -71,7 +71,7 @@ pub fn tables(
 }
 
 /// The summary of tables: for each call and what stands beside it the worst, the median and the best ratio, and on how
-/// many lines the order's bound is kept.
+/// many lines the bound that was set is kept.
 pub fn summary(tables: &[Table]) -> String {
     let mut text = String::from(
         "| call | beside it | target | time: worst | median | best | met | instructions: worst | median | best | met |\n\

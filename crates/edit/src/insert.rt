@@ -57,7 +57,7 @@ fn place(p: &[u8], width: u8, key: &[u8], value: u64) -> Filed
     if !values::fits_width(width, value) {
         return Filed::Refused(Refusal::ValueRange);
     }
-    if probe::class(p, number::read_u16(p, 46), key) != 1 {
+    if !probe::within(p, number::read_u16(p, 46), key) {
         return Filed::Refused(Refusal::Prefix);
     }
     let suffix = probe::suffix(p, key);

@@ -8,7 +8,7 @@ use crate::pages::{Case, Probe};
 use doradb_timed::oracle::Page;
 use doradb_timed::timed;
 
-/// doradb's edit alone and after the validation, and the order's bound against the second.
+/// doradb's edit alone and after the validation, and the bound that was set against the second.
 fn both(what: &str, alone: Side, validated: Side, target: Option<f64>) -> Vec<Against> {
     vec![
         Against {

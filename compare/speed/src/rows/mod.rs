@@ -32,7 +32,7 @@ pub struct Against {
     pub side: Side,
     /// What is taken off it in place of what is around the calls.
     pub less: Option<Side>,
-    /// The order's bound for ours / doradb's.
+    /// The bound that was set for ours / doradb's.
     pub target: Option<f64>,
     /// The cases that it is asked on.
     pub asked: fn(&Case) -> bool,

@@ -1,7 +1,7 @@
 -- Each way out is one law: the value is too large, the key lacks the prefix or lies outside the fences, or what the search of a fit page finds.
 use borrow.Author.Needs.{needs}
-use mathlib.Core.Path.{sym, _∙_}
-use borrow.Author.Tests.{not-true, not-false}
+use mathlib.Core.Path.{refl, sym, _∙_}
+use borrow.Author.Tests.{not-true, not-false, eqb-true, eqb-false}
 use Rattle.search.proofs.Asked.{inside-asked}
 use Rattle.edit.proofs.Testing.{tested-rules, class-asked, find-asked}
 use Rattle.edit.proofs.Inserted.{room-asked, place-range, place-lacks, place-outside, place-found}
@@ -19,8 +19,8 @@ returns c =
 read-u16-requires : tie.Need-read-u16-requires
 read-u16-requires c κs = search needs
 
-class-requires : tie.Need-class-requires
-class-requires c κs = class-asked _ _ _ (c .before .before .before .before .before .pre) _ (c .read-u16 .ensures)
+within-requires : tie.Need-within-requires
+within-requires c κs = class-asked _ _ _ (c .before .before .before .before .before .pre) _ (c .read-u16 .ensures)
 
 returns-2 : tie.Need-returns-2
 returns-2 c =
@@ -28,8 +28,8 @@ returns-2 c =
     let valued = classed .before .before in
     let fits = valued .before .fits-width in
     sym
-    (place-lacks _ _ _ _ (valued .before .before .before .before .pre) _ (fits .ensures) (not-false (fits .result) (valued .if1 .left)) _ (classed .before .read-u16 .ensures) _ (classed .class .ensures)
-    (c .if2 .taken))
+    (place-lacks _ _ _ _ (valued .before .before .before .before .pre) _ (fits .ensures) (not-false (fits .result) (valued .if1 .left)) _ (classed .before .read-u16 .ensures) _ refl
+    (eqb-false _ _ (sym (classed .within .ensures) ∙ not-true (classed .within .result) (c .if2 .taken))))
 
 suffix-requires : tie.Need-suffix-requires
 suffix-requires c κs = search needs
@@ -45,8 +45,8 @@ returns-3 c =
     let fits = valued .before .fits-width in
     let inside = c .before .inside in
     sym
-    (place-outside _ _ _ _ (valued .before .before .before .before .pre) _ (fits .ensures) (not-false (fits .result) (valued .if1 .left)) _ (classed .before .read-u16 .ensures) _
-    (classed .class .ensures) (cut .before .if2 .left) _ (cut .suffix .ensures) _ (inside .ensures) (not-true (inside .result) (c .if3 .taken)))
+    (place-outside _ _ _ _ (valued .before .before .before .before .pre) _ (fits .ensures) (not-false (fits .result) (valued .if1 .left)) _ (classed .before .read-u16 .ensures) _ refl
+    (eqb-true _ _ (sym (classed .within .ensures) ∙ not-false (classed .within .result) (cut .before .if2 .left))) _ (cut .suffix .ensures) _ (inside .ensures) (not-true (inside .result) (c .if3 .taken)))
 
 read-u16-requires-2 : tie.Need-read-u16-requires-2
 read-u16-requires-2 c κs = search needs
@@ -77,8 +77,8 @@ returns-4 c =
     let inside = seen .before .inside in
     c .place-by .ensures
     ∙ sym
-    (place-found _ _ _ _ (keyed .before .before .pre) _ (fits .ensures) (not-false (fits .result) (valued .if1 .left)) _ (classed .before .read-u16 .ensures) _ (classed .class .ensures)
-    (cut .before .if2 .left) _ (cut .suffix .ensures) _ (inside .ensures) (not-false (inside .result) (seen .if3 .left)) _ (sized .before .read-u162 .ensures) _ (sized .read-u163 .ensures) _
+    (place-found _ _ _ _ (keyed .before .before .pre) _ (fits .ensures) (not-false (fits .result) (valued .if1 .left)) _ (classed .before .read-u16 .ensures) _ refl
+    (eqb-true _ _ (sym (classed .within .ensures) ∙ not-false (classed .within .result) (cut .before .if2 .left))) _ (cut .suffix .ensures) _ (inside .ensures) (not-false (inside .result) (seen .if3 .left)) _ (sized .before .read-u162 .ensures) _ (sized .read-u163 .ensures) _
     (c .before .before .has-room .ensures) (λ i. keyed .before .shared-slice-known .given i .fits) (λ i. keyed .shared-slice-known2 .given i .fits) _ (c .before .find-at .ensures))
 
 pub place-spec : {M : Type 1} → statement M
@@ -88,7 +88,7 @@ place-spec =
     fits-width-requires
     returns
     read-u16-requires
-    class-requires
+    within-requires
     returns-2
     suffix-requires
     inside-requires
