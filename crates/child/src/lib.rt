@@ -1,2 +1,4 @@
 // The child number.
+#![tactic(auto)]
+
 pub mod lookup;

@@ -14,7 +14,7 @@ use paper::refusal::Refusal;
 
 // 0 and the call's values, or the number of a refusal and what it carries; values that there are not are 0.
 #[repr(C)]
-#[derive(Drop)]
+#[derive(Clone, Copy)]
 pub struct Answer {
     pub number: u8,
     pub a: u64,
@@ -23,7 +23,7 @@ pub struct Answer {
 
 // 0 and the space numbers, or the number of a refusal and what it carries.
 #[repr(C)]
-#[derive(Drop)]
+#[derive(Clone, Copy)]
 pub struct SpaceAnswer {
     pub number: u8,
     pub carried: u64,

@@ -1,4 +1,4 @@
-// The calls.
+// The calls as C has them: `dorgumanna_c` exports each under its name.
 ghost use Rattle.std.specs.Prelude.{◌≡◌, true, false};
 ghost use Rattle.paper.specs.Calls.{find_of, bound_of, compare_of, read_entry, copy_of, copy_buffer, trailing_of, space_read, need_of, forecast_of, child_of, layout_verdict, fit_verdict, begin_of, begin_page, insert_of, insert_page, set_of, set_page, change_of, change_page, run_of, run_page};
 ghost use Rattle.paper.specs.Answers.{found_says, bound_says, compared_says, entry_says, copied_says, trailing_says, needed_says, forecast_says, child_says, verdict_says, edited_says, filed_says, replaced_says};
@@ -16,56 +16,49 @@ use search::{bound, compare, find};
 use verdict::{fit, layout};
 
 // Find: `a` the slot and `b` 1, or `b` 0 and `a` where halving ended, on a fit page the number of smaller keys.
-#[unsafe(no_mangle)]
-pub extern "C" fn dorgumanna_find(page: &[u8], width: u8, key: &[u8]) -> Answer
+pub fn dorgumanna_find(page: &[u8], width: u8, key: &[u8]) -> Answer
     ensures { result ≡ told (found_says (find_of width page.now key.now)) }
 {
     answer::found(find::find(page, width, key))
 }
 
 // Lower bound: `a` where halving ended, on a fit page the number of keys below the probe.
-#[unsafe(no_mangle)]
-pub extern "C" fn dorgumanna_lower_bound(page: &[u8], width: u8, key: &[u8]) -> Answer
+pub fn dorgumanna_lower_bound(page: &[u8], width: u8, key: &[u8]) -> Answer
     ensures { result ≡ told (bound_says (bound_of false width page.now key.now)) }
 {
     answer::bounded(bound::lower_bound(page, width, key))
 }
 
 // Upper bound: `a` where halving ended, on a fit page the number of keys at most the probe.
-#[unsafe(no_mangle)]
-pub extern "C" fn dorgumanna_upper_bound(page: &[u8], width: u8, key: &[u8]) -> Answer
+pub fn dorgumanna_upper_bound(page: &[u8], width: u8, key: &[u8]) -> Answer
     ensures { result ≡ told (bound_says (bound_of true width page.now key.now)) }
 {
     answer::bounded(bound::upper_bound(page, width, key))
 }
 
 // Compare: `a` -1, 0 or 1 in two's complement, for a slot below, at or above the probe.
-#[unsafe(no_mangle)]
-pub extern "C" fn dorgumanna_compare(page: &[u8], width: u8, slot: usize, key: &[u8]) -> Answer
+pub fn dorgumanna_compare(page: &[u8], width: u8, slot: usize, key: &[u8]) -> Answer
     ensures { result ≡ told (compared_says (compare_of width page.now slot key.now)) }
 {
     answer::compared(compare::compare_slot(page, width, slot, key))
 }
 
 // Child: `a` the highest slot whose key is at most the probe, or -1 in two's complement, `b` the child's value.
-#[unsafe(no_mangle)]
-pub extern "C" fn dorgumanna_child(page: &[u8], key: &[u8]) -> Answer
+pub fn dorgumanna_child(page: &[u8], key: &[u8]) -> Answer
     ensures { result ≡ told (child_says (child_of page.now key.now)) }
 {
     answer::child(lookup::child(page, key))
 }
 
 // Entry: `a` its value.
-#[unsafe(no_mangle)]
-pub extern "C" fn dorgumanna_entry(page: &[u8], width: u8, slot: usize) -> Answer
+pub fn dorgumanna_entry(page: &[u8], width: u8, slot: usize) -> Answer
     ensures { result ≡ told (entry_says (read_entry width page.now slot)) }
 {
     answer::entry(entry::entry(page, width, slot))
 }
 
 // Key copy: the key to the front of `out`, `a` its length.
-#[unsafe(no_mangle)]
-pub extern "C" fn dorgumanna_copy_key(page: &[u8], width: u8, slot: usize, out: &mut [u8]) -> Answer
+pub fn dorgumanna_copy_key(page: &[u8], width: u8, slot: usize, out: &mut [u8]) -> Answer
     ensures value { result ≡ told (copied_says (copy_of width page.now slot out.old)) }
     ensures out_after { out.new ≡ copy_buffer width page.now slot out.old }
 {
@@ -73,56 +66,49 @@ pub extern "C" fn dorgumanna_copy_key(page: &[u8], width: u8, slot: usize, out: 
 }
 
 // Trailing id: `a` the key's last eight bytes as a number.
-#[unsafe(no_mangle)]
-pub extern "C" fn dorgumanna_trailing_id(page: &[u8], width: u8, slot: usize) -> Answer
+pub fn dorgumanna_trailing_id(page: &[u8], width: u8, slot: usize) -> Answer
     ensures { result ≡ told (trailing_says (trailing_of width page.now slot)) }
 {
     answer::trailing(trailing::trailing_id(page, width, slot))
 }
 
 // The space numbers.
-#[unsafe(no_mangle)]
-pub extern "C" fn dorgumanna_space(page: &[u8]) -> SpaceAnswer
+pub fn dorgumanna_space(page: &[u8]) -> SpaceAnswer
     ensures { result ≡ space_told (space_read page.now) }
 {
     answer::space(space::space_numbers(page))
 }
 
 // Need: `a` the bytes that an entry takes on a page with a prefix of that length.
-#[unsafe(no_mangle)]
-pub extern "C" fn dorgumanna_need(width: u8, prefix_len: usize, key: &[u8]) -> Answer
+pub fn dorgumanna_need(width: u8, prefix_len: usize, key: &[u8]) -> Answer
     ensures { result ≡ told (needed_says (need_of width prefix_len key.now)) }
 {
     answer::needed(space::need(width, prefix_len, key))
 }
 
 // Forecast: `a` the common prefix length of two fences, `b` the space that a page begins with.
-#[unsafe(no_mangle)]
-pub extern "C" fn dorgumanna_forecast(lower: &[u8], upper: &[u8]) -> Answer
+pub fn dorgumanna_forecast(lower: &[u8], upper: &[u8]) -> Answer
     ensures { result ≡ told (forecast_says (forecast_of lower.now upper.now)) }
 {
     answer::forecast(space::forecast(lower, upper))
 }
 
 // Layout verdict: `a` 1 yes, 0 no.
-#[unsafe(no_mangle)]
-pub extern "C" fn dorgumanna_layout(page: &[u8], width: u8) -> Answer
+pub fn dorgumanna_layout(page: &[u8], width: u8) -> Answer
     ensures { result ≡ told (verdict_says (layout_verdict width page.now)) }
 {
     answer::verdict(layout::layout_verdict(page, width))
 }
 
 // Fit verdict: `a` 0, or the first rule broken.
-#[unsafe(no_mangle)]
-pub extern "C" fn dorgumanna_fit(page: &[u8], width: u8) -> Answer
+pub fn dorgumanna_fit(page: &[u8], width: u8) -> Answer
     ensures { result ≡ told (verdict_says (fit_verdict width page.now)) }
 {
     answer::verdict(fit::fit_verdict(page, width))
 }
 
 // Begin: makes of the page one without entries between two fences.
-#[unsafe(no_mangle)]
-pub extern "C" fn dorgumanna_begin(
+pub fn dorgumanna_begin(
     page: &mut [u8],
     height: u16,
     timestamp: u64,
@@ -138,8 +124,7 @@ pub extern "C" fn dorgumanna_begin(
 }
 
 // Insert: files the key with its value, `a` its slot number.
-#[unsafe(no_mangle)]
-pub extern "C" fn dorgumanna_insert(page: &mut [u8], width: u8, key: &[u8], value: u64) -> Answer
+pub fn dorgumanna_insert(page: &mut [u8], width: u8, key: &[u8], value: u64) -> Answer
     ensures value { result ≡ told (filed_says (insert_of width page.old key.now value)) }
     ensures page_after { page.new ≡ insert_page width page.old key.now value }
 {
@@ -147,8 +132,7 @@ pub extern "C" fn dorgumanna_insert(page: &mut [u8], width: u8, key: &[u8], valu
 }
 
 // Set value: replaces the expected value of a key by another, `a` the old one.
-#[unsafe(no_mangle)]
-pub extern "C" fn dorgumanna_set_value(
+pub fn dorgumanna_set_value(
     page: &mut [u8],
     width: u8,
     key: &[u8],
@@ -162,13 +146,7 @@ pub extern "C" fn dorgumanna_set_value(
 }
 
 // Change key: gives a slot another key.
-#[unsafe(no_mangle)]
-pub extern "C" fn dorgumanna_change_key(
-    page: &mut [u8],
-    width: u8,
-    slot: usize,
-    key: &[u8],
-) -> Answer
+pub fn dorgumanna_change_key(page: &mut [u8], width: u8, slot: usize, key: &[u8]) -> Answer
     ensures value { result ≡ told (edited_says (change_of width page.old slot key.now)) }
     ensures page_after { page.new ≡ change_page width page.old slot key.now }
 {
@@ -176,8 +154,7 @@ pub extern "C" fn dorgumanna_change_key(
 }
 
 // Run copy: `n` entries of the source from `first` on, behind all entries of the page.
-#[unsafe(no_mangle)]
-pub extern "C" fn dorgumanna_copy_run(
+pub fn dorgumanna_copy_run(
     page: &mut [u8],
     source: &[u8],
     width: u8,
@@ -192,8 +169,7 @@ pub extern "C" fn dorgumanna_copy_run(
 
 // Batch: files all records of a buffer, each a u32 key length, the key and a u64 value, or none; `a` their number. A refusal has
 // the place of the record refused in `a` and what it carries in `b`; 255 is a buffer that ends inside a record.
-#[unsafe(no_mangle)]
-pub extern "C" fn dorgumanna_file_batch(page: &mut [u8], width: u8, records: &[u8]) -> Answer
+pub fn dorgumanna_file_batch(page: &mut [u8], width: u8, records: &[u8]) -> Answer
     ensures value { result ≡ batch_told (batch_of width page.old records.now) }
     ensures page_after { page.new ≡ batch_page width page.old records.now }
 {

@@ -1,4 +1,6 @@
-// The static library: every call as a C function. A lent slice is a pointer and a length.
+// Every call with numbers for its answer, as the static library `dorgumanna_c` exports it.
+#![tactic(auto)]
+
 pub mod answer;
 pub mod calls;
 pub mod numbers;

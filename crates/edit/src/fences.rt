@@ -11,7 +11,7 @@ use octets::runs;
 use paper::page::Slot;
 
 // What the header says of fences that were written: both slots, and where the free space ends.
-#[derive(Drop)]
+#[derive(Clone, Copy)]
 pub struct Fences {
     pub lower: Slot,
     pub upper: Slot,

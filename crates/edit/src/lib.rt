@@ -1,4 +1,6 @@
 // Edits: the calls of document 01 that change a page.
+#![tactic(auto)]
+
 pub mod begin;
 pub mod change;
 pub mod copy;

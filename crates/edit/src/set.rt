@@ -17,7 +17,7 @@ use verdict::fit;
 use write::set;
 
 // The slot whose value may be replaced, or why there is none.
-#[derive(Drop)]
+#[derive(Clone, Copy)]
 enum Held {
     At(usize),
     Refused(Refusal),

@@ -17,7 +17,7 @@ use paper::refusal::Refusal;
 use verdict::fit;
 
 // The number of records filed; or the place of the first one refused and why; or the buffer ends inside a record.
-#[derive(Drop)]
+#[derive(Clone, Copy)]
 pub enum Batched {
     Filed(usize),
     Refused(usize, Refusal),

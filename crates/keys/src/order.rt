@@ -8,7 +8,7 @@ use crate::walk;
 use octets::number;
 
 // How one key stands to another.
-#[derive(Drop)]
+#[derive(Clone, Copy)]
 pub enum Order {
     Below,
     Same,

@@ -8,7 +8,7 @@ use paper::page::Header;
 use paper::refusal::Refusal;
 
 // The header of a page that a call goes on with, or why it does not.
-#[derive(Drop)]
+#[derive(Clone, Copy)]
 pub enum Admitted {
     Is(Header),
     Refused(Refusal),

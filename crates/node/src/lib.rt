@@ -1,4 +1,6 @@
 // The parts of a page: its header, its slots, its entries, its space.
+#![tactic(auto)]
+
 pub mod admit;
 pub mod entry;
 pub mod header;

@@ -9,7 +9,7 @@ use paper::page::Slot;
 use paper::refusal::Refusal;
 
 // A slot that was visited, or why it may not be.
-#[derive(Drop)]
+#[derive(Clone, Copy)]
 pub enum SlotRead {
     Is(Slot),
     Refused(Refusal),

@@ -4,3 +4,4 @@ pub mod Alike
 pub mod Little
 pub mod Big
 pub mod Turns
+pub mod Clauses

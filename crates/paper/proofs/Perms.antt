@@ -38,7 +38,8 @@ module _ {A : Type 0} where
   pairs-perm f s Permᴰ.nil = refl
   pairs-perm f s (Permᴰ.cons {a} {b} {l₁ = l} {l₂ = m} e d) = rw e (cc (pairs-perm f s d, all-perm (f b) d))
   pairs-perm f s (Permᴰ.swap {a} {b} {a'} {b'} {l} e g) =
-      rw (e, g, s b' a') (both_four (f a' b') (all (f b') l) (all (f a') l) (pairs f l))
+      ap (λ x. pairs f (x ∷ b ∷ l)) e ∙ ap (λ y. pairs f (b' ∷ y ∷ l)) g
+      ∙ rw (s b' a') (both_four (f a' b') (all (f b') l) (all (f a') l) (pairs f l))
   pairs-perm f s (Permᴰ.trans d g) = pairs-perm f s d ∙ pairs-perm f s g
 
 -- records with different keys come out alike in every order

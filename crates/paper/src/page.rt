@@ -3,7 +3,7 @@ ghost use Rattle.std.specs.Prelude.{◌≡◌};
 ghost use Rattle.paper.specs.Headers.{with_count, with_start, with_end, with_effective};
 
 // Eight bytes: the length of a suffix, where its payload begins in the body, and its head.
-#[derive(Drop)]
+#[derive(Clone, Copy)]
 pub struct Slot {
     pub len: u16,
     pub offset: u16,
@@ -11,7 +11,7 @@ pub struct Slot {
 }
 
 // The numbers of a header, read once. The inline prefix and the eight hints stay where they stand.
-#[derive(Drop)]
+#[derive(Clone, Copy)]
 pub struct Header {
     pub height: u16,
     pub count: u16,

@@ -1,5 +1,5 @@
 // Why a call was refused: the eighteen rows of document 01's table, in its order.
-#[derive(Drop)]
+#[derive(Clone, Copy)]
 pub enum Refusal {
     // 1: page not 16,384 bytes
     PageLength,

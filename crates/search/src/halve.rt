@@ -19,7 +19,7 @@ pub(crate) fn why_not_met(m: Met) -> Refusal
 }
 
 // Where halving ended, the first slot that is not passed: it was met as equal, met as above, or it is the end and was not met.
-#[derive(Drop)]
+#[derive(Clone, Copy)]
 pub enum Halved {
     Same(usize),
     Above(usize),

@@ -1,4 +1,6 @@
 // Searches: a probe against the prefix, the slots and the fences; halving, find, the bounds, compare.
+#![tactic(auto)]
+
 pub mod bound;
 pub mod compare;
 pub mod fence;

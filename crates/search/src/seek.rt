@@ -16,7 +16,7 @@ use octets::number;
 use paper::answers::{Found, Met};
 
 // The slots to search: low..high.
-#[derive(Drop)]
+#[derive(Clone, Copy)]
 pub struct Window {
     pub low: usize,
     pub high: usize,

@@ -15,7 +15,7 @@ use paper::page::Slot;
 use paper::refusal::Refusal;
 
 // What heads and lengths say of a slot and a probe's suffix: the order, or that the suffix bytes decide.
-#[derive(Drop)]
+#[derive(Clone, Copy)]
 pub enum Ranked {
     Told(Order),
     Open,

@@ -27,9 +27,9 @@ module _ (w : ℕ) (p : List ℕ) (h : Header) where
   abbrev tally : Tally
   tally = tally_of w p h h.count
 
-  pub keys_with : (t : Tally) → t ≡ tally → keys_with w p h ≡ first_broken 4 (key_rules p h t)
+  pub keys_with_lem : (t : Tally) → t ≡ tally → keys_with w p h ≡ first_broken 4 (key_rules p h t)
   unfolding keys_with
-  keys_with t e = rw (← e)
+  keys_with_lem t e = rw (← e)
 
   -- ---- fit; x1, x2, x3 are what the tests of U1, U2 and U3 answered
   module _ (x1 : Bool) (e1 : x1 ≡ rules_of h) where

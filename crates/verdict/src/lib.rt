@@ -1,4 +1,6 @@
 // The two verdicts, and pages that are fit.
+#![tactic(auto)]
+
 mod cover;
 pub mod fit;
 pub mod layout;

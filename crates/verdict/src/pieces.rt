@@ -10,7 +10,7 @@ use node::{header, slots, space};
 use paper::page::{Header, Slot};
 
 // The bytes lo..hi of the body.
-#[derive(Drop)]
+#[derive(Clone, Copy)]
 pub struct Extent {
     pub lo: usize,
     pub hi: usize,

@@ -13,7 +13,7 @@ use node::{header, slots};
 use paper::page::{Header, Slot};
 
 // Whether heads are faithful, entries lie within the fences and keys rise strictly; and the needs of all entries.
-#[derive(Drop)]
+#[derive(Clone, Copy)]
 pub struct Tally {
     pub faithful: bool,
     pub inside: bool,

@@ -1,10 +1,4 @@
 pub mod Longs
-pub mod Held
-pub mod Taking
-pub mod Params
-pub mod Viewing
-pub mod Passing
 pub mod Shows
-pub mod Apart
 pub mod Paged
 pub mod Entering

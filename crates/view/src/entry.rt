@@ -10,7 +10,7 @@ use octets::{number, value};
 use paper::refusal::Refusal;
 
 // The value of an entry and the length of its key.
-#[derive(Drop)]
+#[derive(Clone, Copy)]
 pub enum EntryShown {
     Is(u64, usize),
     Refused(Refusal),

@@ -13,7 +13,7 @@ use paper::page::Slot;
 
 // A key: the page's prefix, then a suffix of `len` bytes, which is `suffix` where it is longer than four and else the first
 // of the `short` bytes.
-#[derive(Drop)]
+#[derive(Clone, Copy)]
 pub struct KeyView<'p> {
     pub prefix: &'p [u8],
     pub suffix: &'p [u8],

@@ -1,4 +1,4 @@
-// A slot's key by way of its view, for callers that hold no view: plain parameters, so that their proofs need no walk.
+// A slot's key by way of its view, for callers that hold no view: plain parameters.
 ghost use Rattle.std.specs.Prelude.{◌≡◌, ◌++◌, ◌+◌, ◌≤◌, length};
 ghost use Rattle.octets.specs.Bytes.{big_bytes, put};
 ghost use Rattle.keys.specs.Keys.{order};

@@ -80,7 +80,9 @@ module _ (w : ℕ) (p : List ℕ) (h : Header) (q : List ℕ) (l j e : ℕ) (Q :
   -- its need, and that of the rest
   needs-is : need_of_all w p (run w q j (e - j)) ≡ need w cutBytes + need_of_all w p behind
   unfolding need_of_all sum
-  needs-is = rw (run_is, prefix-is, length-key)
+  needs-is =
+      let cut : length (drop (frame_of p).prefix_len (prefix_of q l ++ suffix_of q (slot_of q j))) ≡ cutBytes = rw prefix-is length-key in
+      ap (need_of_all w p) run_is ∙ ap (λ (n : ℕ). need w n + need_of_all w p behind) cut
 
   pub turn-room : Room w p h h.count cutBytes
   unfolding need

@@ -1,4 +1,6 @@
 // What each edit of a page writes. Each function is given the facts that the tests of a call found.
+#![tactic(auto)]
+
 pub mod change;
 pub mod copy;
 pub mod insert;

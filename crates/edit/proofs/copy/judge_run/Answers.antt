@@ -1,0 +1,41 @@
+-- Each way out is a case of the judgement, with what the tests before it said.
+use Rattle.edit.proofs.RunCalls.{judged-beyond, judged-past, there, judged-none, judged-entry, first-asked, judged-neighbours, judged-full, judged-done}
+use Rattle.edit.proofs.copy.judge_run.Goals as goal
+
+pub returns-then-count-a : goal.returns-then-count-a
+returns-then-count-a c = judged-beyond c.args.width _ _ _ _ _ _ c.requires.0 c.requires.1 c.requires.2 c.if-count-a.true
+
+pub returns-then-count-a-2 : goal.returns-then-count-a-2
+returns-then-count-a-2 c = judged-past c.args.width _ _ _ _ _ _ c.requires.0 c.requires.1 c.requires.2 c.if-count-a.false c.if-count-a-2.true
+
+pub returns-then-n-eq0 : goal.returns-then-n-eq0
+returns-then-n-eq0 c = judged-none c.args.width _ _ _ _ _ _ c.requires.0 c.requires.1 c.requires.2 c.if-count-a.false c.if-count-a-2.false c.if-n-eq0.true
+
+pub entries_stand-e-requires : goal.entries_stand-e-requires
+entries_stand-e-requires c = (c.requires.0, c.requires.1, there c.args.width _ _ _ _ _ _ c.requires.0 c.requires.1 c.requires.2 c.if-count-a.false c.if-count-a-2.false)
+
+pub returns-in_default : goal.returns-in_default
+returns-in_default c = judged-entry c.args.width _ _ _ _ _ _ c.requires.0 c.requires.1 c.requires.2 c.if-count-a.false c.if-count-a-2.false c.if-n-eq0.false _ c.entries_stand-e.ensures _ c.in_default.is
+
+pub above_last-requires : goal.above_last-requires
+above_last-requires c =
+    let first = first-asked c.args.width _ _ _ _ _ _ c.requires.0 c.requires.1 c.requires.2 c.if-count-a.false c.if-count-a-2.false c.if-n-eq0.false _ c.entries_stand-e.ensures c.in-Done.is in
+    (c.requires.0, c.requires.1, first.0, first.1)
+
+pub returns-then-not-above_last : goal.returns-then-not-above_last
+returns-then-not-above_last c =
+    judged-neighbours c.args.width _ _ _ _ _ _ c.requires.0 c.requires.1 c.requires.2 c.if-count-a.false c.if-count-a-2.false c.if-n-eq0.false _ c.entries_stand-e.ensures c.in-Done.is _
+    c.above_last.ensures c.if-not-above_last.true
+
+pub run_fits-requires : goal.run_fits-requires
+run_fits-requires c = (c.requires.1, there c.args.width _ _ _ _ _ _ c.requires.0 c.requires.1 c.requires.2 c.if-count-a.false c.if-count-a-2.false)
+
+pub returns-then-not-run_fits : goal.returns-then-not-run_fits
+returns-then-not-run_fits c =
+    judged-full c.args.width _ _ _ _ _ _ c.requires.0 c.requires.1 c.requires.2 c.if-count-a.false c.if-count-a-2.false c.if-n-eq0.false _ c.entries_stand-e.ensures c.in-Done.is _
+    c.above_last.ensures c.if-not-above_last.false _ c.run_fits.ensures c.if-not-run_fits.true
+
+pub returns : goal.returns
+returns c =
+    judged-done c.args.width _ _ _ _ _ _ c.requires.0 c.requires.1 c.requires.2 c.if-count-a.false c.if-count-a-2.false c.if-n-eq0.false _ c.entries_stand-e.ensures c.in-Done.is _
+    c.above_last.ensures c.if-not-above_last.false _ c.run_fits.ensures c.if-not-run_fits.false

@@ -1,0 +1,26 @@
+-- Where a record was refused, the page is written over with what was saved of it.
+use native.Mathlib.Omega.{arith}
+use mathlib.Core.Path.{sym, ◌∙◌}
+use lib.Seq.{length-take-le}
+use Rattle.verdict.proofs.Covers.{long}
+use Rattle.filing.proofs.Folds.{left-filed, left-restored}
+use Rattle.filing.proofs.batch.file_or_restore.Goals as goal
+
+pub slice_bounds-copy_in-end-3 : goal.slice_bounds-copy_in-end-3
+slice_bounds-copy_in-end-3 c = sym (length-take-le 16384 c.args.p.now (omega (arith, c.requires.0.size)))
+
+pub copy_in-requires : goal.copy_in-requires
+copy_in-requires c = omega (arith, c.requires.0.size, long 16384, length-take-le 16384 c.args.p.now (omega (arith, c.requires.0.size)))
+
+pub returns-then-not-is_filed : goal.returns-then-not-is_filed
+returns-then-not-is_filed c =
+    let size = c.requires.0.size in record {
+      value = c.file_all-r.ensures.value;
+      p_after = left-restored _ _ c.is_filed.ensures _ _ _ c.if-not-is_filed.true (omega (arith, size)) _ _ (long 16384 ∙ sym size) 16384 (omega (arith, size)) c.copy_in.ensures _
+          c.copy_in-then-not-is_filed.ensures;
+    }
+
+pub returns-else-not-is_filed : goal.returns-else-not-is_filed
+returns-else-not-is_filed c =
+    let told = c.is_filed in
+    record { value = c.file_all-r.ensures.value; p_after = left-filed _ _ told.ensures _ _ _ c.if-not-is_filed.false c.file_all-r.ensures.p_after }

@@ -1,0 +1,13 @@
+-- The loop keeps the first hint not below the head of those from i on. A turn finds one sooner or leaves it: `first-here`, `first-later`.
+use mathlib.Core.Path.{◌≡◌}
+use Prim.Native.Nat.{◌+◌, ◌≤◌}
+use lib.Dec.{leb}
+use lib.ListN.{length, drop}
+use Rattle.paper.specs.Hints.{first_hint}
+use Rattle.hint.proofs.window.first_not_below.Given as goal
+
+abbrev pub invariant-loop-i : goal.invariant-loop-i
+invariant-loop-i l = (l.i ≤ 8) × (length l.hints ≡ 8) × (l.first ≡ l.i + first_hint (leb l.head) (drop l.i l.hints))
+
+abbrev pub decreases-loop-i : goal.decreases-loop-i
+decreases-loop-i l = l.i

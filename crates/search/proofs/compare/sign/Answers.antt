@@ -1,0 +1,22 @@
+-- Each answer is the case of `sign_by` that its tests picked.
+use Rattle.paper.specs.Searches.{sign_of}
+use Rattle.search.proofs.Signs.{sign_before, sign_after, sign_within}
+use Rattle.search.proofs.compare.sign.Goals as goal
+
+pub returns-then-class-eq0 : goal.returns-then-class-eq0
+returns-then-class-eq0 c = rw (sign_before _ c.args.o c.if-class-eq0.true)
+
+pub returns-then-class-eq2 : goal.returns-then-class-eq2
+returns-then-class-eq2 c = rw (sign_after _ c.args.o c.if-class-eq0.false c.if-class-eq2.true)
+
+pub returns-in-Below : goal.returns-in-Below
+unfolding sign_of
+returns-in-Below c = rw (sign_within _ c.args.o c.if-class-eq0.false c.if-class-eq2.false, c.in-Below.is)
+
+pub returns-in-Same : goal.returns-in-Same
+unfolding sign_of
+returns-in-Same c = rw (sign_within _ c.args.o c.if-class-eq0.false c.if-class-eq2.false, c.in-Same.is)
+
+pub returns-in-Above : goal.returns-in-Above
+unfolding sign_of
+returns-in-Above c = rw (sign_within _ c.args.o c.if-class-eq0.false c.if-class-eq2.false, c.in-Above.is)

@@ -1,0 +1,40 @@
+-- Each refusal is the case that its tests picked; else what the header says is the page's verdict.
+use borrow.Author.Tests.{eq-eqb, ne_eqb}
+use Rattle.paper.specs.Refusals.{judge}
+use Rattle.paper.specs.Calls.{layout_verdict}
+use Rattle.verdict.proofs.Fitness.{layout_is}
+use Rattle.verdict.proofs.layout.layout_verdict.Goals as goal
+
+pub returns-then-p-ne16384 : goal.returns-then-p-ne16384
+unfolding layout_verdict judge
+returns-then-p-ne16384 c = rw (ne_eqb _ _ c.if-p-ne16384.true)
+
+pub returns-then-not-known_width : goal.returns-then-not-known_width
+unfolding layout_verdict judge
+returns-then-not-known_width c = rw (eq-eqb _ _ c.if-p-ne16384.false, ← c.known_width.ensures, c.if-not-known_width.true)
+
+pub returns-then-layout_right : goal.returns-then-layout_right
+unfolding layout_verdict judge
+returns-then-layout_right c =
+    rw (
+      eq-eqb _ _ c.if-p-ne16384.false,
+      ← c.known_width.ensures,
+      c.if-not-known_width.false,
+      layout_is,
+      ← c.read_header-h.ensures,
+      ← c.layout_right.ensures,
+      c.if-layout_right.true,
+    )
+
+pub returns : goal.returns
+unfolding layout_verdict judge
+returns c =
+    rw (
+      eq-eqb _ _ c.if-p-ne16384.false,
+      ← c.known_width.ensures,
+      c.if-not-known_width.false,
+      layout_is,
+      ← c.read_header-h.ensures,
+      ← c.layout_right.ensures,
+      c.if-layout_right.false,
+    )
