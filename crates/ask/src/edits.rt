@@ -1,4 +1,4 @@
-// The calls that edit the page in a register. All answer whether the program goes on.
+// The calls that edit the page in a register. All answer whether the program goes on, or why it could not write.
 ghost use Rattle.std.specs.Prelude.{◌≡◌, ◌≤◌, length};
 
 use crate::wire::Request;
@@ -7,17 +7,27 @@ use dorgumanna::answer;
 use edit::{begin, change, copy, insert, set};
 use filing::batch;
 use octets::runs;
+use std::io;
+use std::io::Write;
 
 // Answers an edit of register `r` whose runs stand at the front of `first` and `second`.
-pub(crate) fn edit(store: &mut [u8], r: usize, first: &[u8], second: &mut [u8], q: Request) -> bool
+pub(crate) fn edit<W: Write>(
+    output: &mut W,
+    store: &mut [u8],
+    r: usize,
+    first: &[u8],
+    second: &mut [u8],
+    q: Request,
+) -> io::Result<bool>
     requires { (length store.old ≡ 328016) × (r ≤ 3) }
 {
     if q.call == 6 {
-        return run_copied(store, r, second, q);
+        return run_copied(output, store, r, second, q);
     }
     let at = 82004 * r + 4;
     let n = registers::content_len(store, r);
     edit_page(
+        output,
         &mut store[at..at + n],
         wire::front(first, q.n),
         wire::front(second, q.m),
@@ -26,53 +36,85 @@ pub(crate) fn edit(store: &mut [u8], r: usize, first: &[u8], second: &mut [u8], 
 }
 
 // Answers an edit of one page.
-fn edit_page(page: &mut [u8], first: &[u8], second: &[u8], q: Request) -> bool {
+fn edit_page<W: Write>(
+    output: &mut W,
+    page: &mut [u8],
+    first: &[u8],
+    second: &[u8],
+    q: Request,
+) -> io::Result<bool> {
     if q.call == 2 {
-        return begun(page, first, second, q);
+        return begun(output, page, first, second, q);
     }
     if q.call == 3 {
-        return wire::tell(answer::filed(insert::insert(page, q.width, first, q.a)));
+        return wire::tell(
+            output,
+            answer::filed(insert::insert(page, q.width, first, q.a)),
+        );
     }
     if q.call == 20 {
-        return batch_filed(page, first, q);
+        return batch_filed(output, page, first, q);
     }
     if q.call == 4 {
-        return wire::tell(answer::replaced(set::set_value(page, q.width, first, q.a, q.b)));
+        return wire::tell(
+            output,
+            answer::replaced(set::set_value(page, q.width, first, q.a, q.b)),
+        );
     }
-    wire::tell(answer::edited(change::change_key(page, q.width, q.a as usize, first)))
+    wire::tell(
+        output,
+        answer::edited(change::change_key(page, q.width, q.a as usize, first)),
+    )
 }
 
 // Batch: a buffer that ends inside a record cannot be carried to the call.
-fn batch_filed(page: &mut [u8], records: &[u8], q: Request) -> bool {
+fn batch_filed<W: Write>(
+    output: &mut W,
+    page: &mut [u8],
+    records: &[u8],
+    q: Request,
+) -> io::Result<bool> {
     let a = answer::batched(batch::file_batch(page, q.width, records));
     if a.number == 255 {
-        return wire::broken();
+        return wire::broken(output);
     }
-    wire::tell(a)
+    wire::tell(output, a)
 }
 
 // Begin: a height above 65,535 and a flag above 1 cannot be carried to the call.
-fn begun(page: &mut [u8], lower: &[u8], upper: &[u8], q: Request) -> bool {
+fn begun<W: Write>(
+    output: &mut W,
+    page: &mut [u8],
+    lower: &[u8],
+    upper: &[u8],
+    q: Request,
+) -> io::Result<bool> {
     if 65535 < q.a {
-        return wire::broken();
+        return wire::broken(output);
     }
     if 1 < q.width {
-        return wire::broken();
+        return wire::broken(output);
     }
     let done = begin::begin(page, q.a as u16, q.b, lower, q.c, upper, q.width == 1);
-    wire::tell(answer::edited(done))
+    wire::tell(output, answer::edited(done))
 }
 
 // Run copy: the source goes through `room`, so that the destination alone is lent from the registers. Two registers that
 // are one cannot be carried to the call.
-fn run_copied(store: &mut [u8], r: usize, room: &mut [u8], q: Request) -> bool
+fn run_copied<W: Write>(
+    output: &mut W,
+    store: &mut [u8],
+    r: usize,
+    room: &mut [u8],
+    q: Request,
+) -> io::Result<bool>
     requires { (length store.old ≡ 328016) × (r ≤ 3) }
 {
     if 3 < q.other {
-        return wire::broken();
+        return wire::broken(output);
     }
     if q.other == q.page {
-        return wire::broken();
+        return wire::broken(output);
     }
     let m = put_aside(store, q.other as usize, room);
     let at = 82004 * r + 4;
@@ -85,7 +127,7 @@ fn run_copied(store: &mut [u8], r: usize, room: &mut [u8], q: Request) -> bool
         q.a as usize,
         q.b as usize,
     );
-    wire::tell(answer::edited(done))
+    wire::tell(output, answer::edited(done))
 }
 
 // The content of register `r` to the front of `room`; answers its length.

@@ -1,5 +1,7 @@
 // A server of calls: answers a stream of requests on standard input, one after the other, on standard output.
 // Four registers keep a page each between calls.
+#![tactic(auto)]
+
 ghost use Rattle.std.specs.Prelude.{◌≡◌, length};
 
 mod calls;
@@ -8,32 +10,50 @@ mod registers;
 mod wire;
 
 use crate::wire::Arrival;
+use std::io;
+use std::io::{Read, Write};
 
-fn main() {
+fn main(rt: HostRuntime) -> io::Result<()> {
+    let mut input = rt.stdin();
+    let mut output = rt.stdout();
     let mut store = [0u8; 328016];
     let mut first = [0u8; 82000];
     let mut second = [0u8; 82000];
-    serve_all(&mut store, &mut first, &mut second);
+    serve_all(&mut input, &mut output, &mut store, &mut first, &mut second)
 }
 
-// Answers request after request. A proved loop has to end, and nothing says that the input does: it counts down from a
-// number that no run uses up.
-fn serve_all(store: &mut [u8], first: &mut [u8], second: &mut [u8])
+// Answers request after request. A proved loop has to end, and nothing says that the input does: it counts to a number
+// that no run uses up.
+fn serve_all<R: Read, W: Write>(
+    input: &mut R,
+    output: &mut W,
+    store: &mut [u8],
+    first: &mut [u8],
+    second: &mut [u8],
+) -> io::Result<()>
     requires { length store.old ≡ 328016 }
 {
-    let mut left: u64 = 18446744073709551615;
-    while 0 < left && serve(store, first, second) {
-        left -= 1;
+    for _ in 0..u64::MAX {
+        if !serve(input, output, store, first, second)? {
+            break;
+        }
     }
+    Ok(())
 }
 
 // Takes one request and answers it; false where the program ends.
-fn serve(store: &mut [u8], first: &mut [u8], second: &mut [u8]) -> bool
+fn serve<R: Read, W: Write>(
+    input: &mut R,
+    output: &mut W,
+    store: &mut [u8],
+    first: &mut [u8],
+    second: &mut [u8],
+) -> io::Result<bool>
     requires { length store.old ≡ 328016 }
 {
-    match wire::receive(first, second) {
-        Arrival::Whole(q) => calls::answer(store, first, second, q),
-        Arrival::Broken => wire::broken(),
-        Arrival::End => false,
+    match wire::receive(input, first, second)? {
+        Arrival::Whole(q) => calls::answer(output, store, first, second, q),
+        Arrival::Broken => wire::broken(output),
+        Arrival::End => Ok(false),
     }
 }

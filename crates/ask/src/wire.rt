@@ -1,9 +1,14 @@
-// Requests from standard input, and answers to standard output. Numbers are little-endian.
+// Requests from a reader, and answers to a writer. Numbers are little-endian.
+ghost use Rattle.std.specs.Prelude.{◌≤◌, ◌<◌, ℕ, take, length, IfOk, OnErr};
+ghost use Rattle.std.specs.Io.{ReadsAtMost};
+ghost use Rattle.std.specs.Io.KnownBytes.{Consumes, IsAtEnd};
+
 use dorgumanna::answer;
 use dorgumanna::answer::Answer;
-use libc::{STDIN_FILENO, STDOUT_FILENO};
 use octets::number;
 use paper::refusal::Refusal;
+use std::io;
+use std::io::{Read, Write};
 
 // A request but for its two runs of bytes, of which it has the lengths.
 #[derive(Drop)]
@@ -37,46 +42,70 @@ pub(crate) fn front(bytes: &[u8], n: usize) -> &[u8] {
     &bytes[..n]
 }
 
-// Reads `n` bytes to the front of `bytes`; false where they do not fit or the input ends before.
-fn read_run(bytes: &mut [u8], n: usize) -> bool {
-    if bytes.len() < n {
-        return false;
+// Reads until `bytes` is full or the input ends; answers how many bytes it put at their front. An error is the reader's, and what
+// was read before it stands at the front too.
+fn read_full<R: Read>(input: &mut R, bytes: &mut [u8]) -> io::Result<usize>
+    ensures bound { ReadsAtMost result bytes.new }
+    ensures read { IfOk result (λ n. Consumes (R.remaining input.old) (R.remaining input.new) (take n bytes.new)) }
+    ensures end { IfOk result (λ n. n < length bytes.new → IsAtEnd (R.remaining input.new)) }
+    ensures err { OnErr result (0 < length bytes.new) }
+    ensures left { OnErr result ((n : ℕ) × (n ≤ length bytes.new) × Consumes (R.remaining input.old) (R.remaining input.new) (take n bytes.new)) }
+{
+    let mut done = 0;
+    while done < bytes.len() {
+        let n = input.read(&mut bytes[done..])?;
+        if n == 0 {
+            break;
+        }
+        done += n;
     }
-    io::read_full(STDIN_FILENO, &mut bytes[..n]) == n
+    Ok(done)
+}
+
+// Reads `n` bytes to the front of `bytes`; false where they do not fit or the input ends before.
+fn read_run<R: Read>(input: &mut R, bytes: &mut [u8], n: usize) -> io::Result<bool> {
+    if bytes.len() < n {
+        return Ok(false);
+    }
+    Ok(read_full(input, &mut bytes[..n])? == n)
 }
 
 // Reads a run's length, then the run. Answers the length; one above 82,000 where there is no such run.
-fn read_counted(bytes: &mut [u8]) -> usize {
+fn read_counted<R: Read>(input: &mut R, bytes: &mut [u8]) -> io::Result<usize> {
     let mut four = [0u8; 4];
-    if io::read_full(STDIN_FILENO, &mut four) != 4 {
-        return 82001;
+    if read_full(input, &mut four)? != 4 {
+        return Ok(82001);
     }
     let n = number::read_u32(&four, 0) as usize;
-    if !read_run(bytes, n) {
-        return 82001;
+    if !read_run(input, bytes, n)? {
+        return Ok(82001);
     }
-    n
+    Ok(n)
 }
 
 // Reads the next request, its runs to the front of `first` and `second`.
-pub(crate) fn receive(first: &mut [u8], second: &mut [u8]) -> Arrival {
+pub(crate) fn receive<R: Read>(
+    input: &mut R,
+    first: &mut [u8],
+    second: &mut [u8],
+) -> io::Result<Arrival> {
     let mut head = [0u8; 28];
-    let got = io::read_full(STDIN_FILENO, &mut head);
+    let got = read_full(input, &mut head)?;
     if got == 0 {
-        return Arrival::End;
+        return Ok(Arrival::End);
     }
     if got != 28 {
-        return Arrival::Broken;
+        return Ok(Arrival::Broken);
     }
-    let n = read_counted(first);
+    let n = read_counted(input, first)?;
     if 82000 < n {
-        return Arrival::Broken;
+        return Ok(Arrival::Broken);
     }
-    let m = read_counted(second);
+    let m = read_counted(input, second)?;
     if 82000 < m {
-        return Arrival::Broken;
+        return Ok(Arrival::Broken);
     }
-    Arrival::Whole(Request {
+    Ok(Arrival::Whole(Request {
         call: head[0],
         width: head[1],
         page: head[2],
@@ -86,48 +115,54 @@ pub(crate) fn receive(first: &mut [u8], second: &mut [u8]) -> Arrival {
         c: number::read_u64(&head, 20),
         n,
         m,
-    })
+    }))
 }
 
-// Writes an answer; false where it cannot be written.
-pub(crate) fn reply(number: u8, a: u64, b: u64, bytes: &[u8]) -> bool {
+// Writes an answer, whole and flushed; false where its bytes are too many to be written.
+pub(crate) fn reply<W: Write>(
+    output: &mut W,
+    number: u8,
+    a: u64,
+    b: u64,
+    bytes: &[u8],
+) -> io::Result<bool> {
     if 82000 < bytes.len() {
-        return false;
+        return Ok(false);
     }
     let mut head = [0u8; 21];
     head[0] = number;
     number::write_u64(&mut head, 1, a);
     number::write_u64(&mut head, 9, b);
     number::write_u32(&mut head, 17, bytes.len() as u32);
-    if !io::write_all(STDOUT_FILENO, &head) {
-        return false;
-    }
-    io::write_all(STDOUT_FILENO, bytes)
+    output.write_all(&head)?;
+    output.write_all(bytes)?;
+    output.flush()?;
+    Ok(true)
 }
 
 // The answer of a call that has no bytes.
-pub(crate) fn tell(a: Answer) -> bool {
-    reply(a.number, a.a, a.b, b"")
+pub(crate) fn tell<W: Write>(output: &mut W, a: Answer) -> io::Result<bool> {
+    reply(output, a.number, a.a, a.b, b"")
 }
 
 // A call done that answers two numbers.
-pub(crate) fn pair(a: u64, b: u64) -> bool {
-    reply(0, a, b, b"")
+pub(crate) fn pair<W: Write>(output: &mut W, a: u64, b: u64) -> io::Result<bool> {
+    reply(output, 0, a, b, b"")
 }
 
 // A call refused.
-pub(crate) fn refused(r: Refusal) -> bool {
-    refused_with(r, b"")
+pub(crate) fn refused<W: Write>(output: &mut W, r: Refusal) -> io::Result<bool> {
+    refused_with(output, r, b"")
 }
 
 // A call refused that answers bytes all the same.
-pub(crate) fn refused_with(r: Refusal, bytes: &[u8]) -> bool {
+pub(crate) fn refused_with<W: Write>(output: &mut W, r: Refusal, bytes: &[u8]) -> io::Result<bool> {
     let a = answer::refusal(r);
-    reply(a.number, a.a, 0, bytes)
+    reply(output, a.number, a.a, 0, bytes)
 }
 
 // A request that cannot be carried to a call: 255, and the program ends.
-pub(crate) fn broken() -> bool {
-    reply(255, 0, 0, b"");
-    false
+pub(crate) fn broken<W: Write>(output: &mut W) -> io::Result<bool> {
+    reply(output, 255, 0, 0, b"")?;
+    Ok(false)
 }

@@ -1,5 +1,5 @@
 -- The pieces that go to a sink, one after the other, are the paper's text; and what a fit page gives the functions that list it. Assumes nothing.
-use mathlib.Core.Path.{◌≡◌, refl, sym, ap, ◌∙◌}
+use mathlib.Core.Path.{◌≡◌, refl, sym, ap, subst, ◌∙◌}
 use mathlib.Core.Bool.{Bool, true, false}
 use mathlib.Core.List.{List, [], ◌∷◌, ◌++◌, map, append-nil, append_assoc}
 use Prim.Native.Nat.{ℕ, zero, suc, ◌+◌, ◌-◌, ◌≤◌, ◌<◌}
@@ -10,6 +10,7 @@ use borrow.Author.Tests.{le-leb, lt-leb, eq-eqb, ne_eqb, eqb-true}
 use lib.Dec.{eqb}
 use lib.ListN.{length, get_or, take, drop, length-drop}
 use lib.Seq.{take_all}
+use Rattle.std.proofs.Common.{Option}
 use Rattle.keys.specs.Choice.{pick}
 use Rattle.paper.specs.Lists.{tab}
 use Rattle.paper.specs.Page.{slot_of, prefix_of, Row, row_of, Frame, frame_of, numbers_of, header_of, view_of}
@@ -24,11 +25,11 @@ use Rattle.paper.proofs.Sorted.{never}
 use Rattle.paper.proofs.Fit.{Fit, fit, length-rows, placed, effective-used}
 use Rattle.listing.specs.Texts.{Wrote, verdict_text, space_text, line_text, lines_text}
 use Rattle.listing.specs.Pieces.{Listable, refusal_of, verdict_number, reach}
-use Rattle.listing.specs.Sums.{told}
 use Rattle.listing.specs.declared.sink.Sink.{Sink}
 use Rattle.listing.proofs.Writing.{then, front_is}
 use Rattle.listing.proofs.Filling.{lines-append}
-use Rattle.listing.proofs.Telling.{told-append}
+use Rattle.listing.specs.Sums.{shown, Stopped}
+use Rattle.listing.proofs.Telling.{Passed, passed-none, passed-append, passed_is, shown-stopped, passed-stopped}
 
 -- ---- how far a buffer reaches
 module _ (w : ℕ) (p : List ℕ) (n size count : ℕ) where
@@ -53,25 +54,38 @@ module _ (w : ℕ) (p : List ℕ) (n size count : ℕ) where
   pub reached : (i j : ℕ) → j ≡ reach w p n size (count - i) i 0 → i < count → 65100 ≤ size → i < j
   reached i j e h l = rw e (reach-some (count - i) i 0 (omega arith) (omega arith))
 
--- ---- the entries' lines, told: as many as are left
-module _ (s : Sink) (w : ℕ) (p : List ℕ) (n count : ℕ) where
-  pub lines-begin : told s (lines_text w p n 0 count) ≡ told s (lines_text w p n (count - count) count)
-  lines-begin = let e : count - count ≡ 0 = omega arith in rw e
+-- ---- the entries' lines: those that went to the sink
+module _ (s : Sink) (a : Option (List ℕ)) (w : ℕ) (p : List ℕ) (n count : ℕ) where
+  pub lines-begin : Passed s s a a (lines_text w p n 0 (count - count))
+  lines-begin =
+      let e : count - count ≡ 0 = omega arith in
+      passed_is s s a a [] (lines_text w p n 0 (count - count)) (passed-none s a) (rw e (unfold lines_text in refl))
 
-  pub lines-turn : (left next : ℕ) (t : Sink) → left ≤ count → count - left < next → next ≤ count → t ≡ told s (lines_text w p n (count - left) (next - (count - left)))
-      → told s (lines_text w p n (count - left) left) ≡ told t (lines_text w p n (count - (count - next)) (count - next))
-  lines-turn left next t h k l e =
+  pub lines-turn : (left next : ℕ) (t x : Sink) (b c : Option (List ℕ)) → left ≤ count → count - left < next → next ≤ count
+      → Passed s t a b (lines_text w p n 0 (count - left)) → Passed t x b c (lines_text w p n (count - left) (next - (count - left)))
+      → Passed s x a c (lines_text w p n 0 (count - (count - next)))
+  lines-turn left next t x b c h k l f g =
       let from = count - left in
-      let a : left ≡ next - from + (count - next) = omega arith in
-      let b : from + (next - from) ≡ next = omega arith in
-      let c : count - (count - next) ≡ next = omega arith in
-      let cut : lines_text w p n from left ≡ lines_text w p n from (next - from) ++ lines_text w p n next (count - next)
-      = ap (lines_text w p n from) a ∙ rw (lines-append w p n from (next - from) (count - next), b) in
-      rw (cut, c, e) (sym (told-append s (lines_text w p n from (next - from)) (lines_text w p n next (count - next))))
+      let e : count - (count - next) ≡ from + (next - from) = omega arith in
+      let cut : lines_text w p n 0 from ++ lines_text w p n from (next - from) ≡ lines_text w p n 0 (count - (count - next))
+      = rw (e, lines-append w p n 0 from (next - from), zero-add from) in
+      passed_is s x a c (lines_text w p n 0 from ++ lines_text w p n from (next - from)) (lines_text w p n 0 (count - (count - next))) (passed-append s t x a b c (lines_text w p n 0 from) (lines_text w p n from (next - from)) f g) cut
 
-  pub lines_end : (i left : ℕ) → left ≤ 0 → told s (lines_text w p n i left) ≡ s
-  unfolding told lines_text
-  lines_end i left h = let e : left ≡ 0 = omega arith in rw e
+  -- where the writer fails at the lines that go on from there
+  pub lines-left : (left next : ℕ) (t : Sink) (b c : Option (List ℕ)) → left ≤ count → count - left < next → next ≤ count
+      → Passed s t a b (lines_text w p n 0 (count - left)) → Stopped b c (shown t.mode (lines_text w p n (count - left) (next - (count - left))))
+      → Stopped a c (shown s.mode (lines_text w p n 0 count))
+  lines-left left next t b c h k l f g =
+      let lines : ℕ → ℕ → List ℕ = lines_text w p n in
+      let from = count - left in
+      let cut : (i j : ℕ) → i ≤ j → lines 0 i ++ lines i (j - i) ≡ lines 0 j = λ i j q. lines_cut i j q in
+      shown-stopped s.mode a c (lines 0 next) (lines next (count - next)) (lines 0 count) (cut next count l)
+      (subst (λ u. Stopped a c (shown s.mode u)) (cut from next (omega arith)) (passed-stopped s t a b c (lines 0 from) (lines from (next - from)) f g))
+    where
+      lines_cut : (i j : ℕ) → i ≤ j → lines_text w p n 0 i ++ lines_text w p n i (j - i) ≡ lines_text w p n 0 j
+      lines_cut i j q =
+          let e : j ≡ i + (j - i) = omega arith in
+          sym (ap (λ m. lines_text w p n 0 m) e ∙ (lines-append w p n 0 i (j - i) ∙ ap (λ m. lines_text w p n 0 i ++ lines_text w p n m (j - i)) (zero-add i)))
 
 -- ---- the paper's lines
 lines_are : (w : ℕ) (p : List ℕ) (f : Frame) (n : ℕ) → f.prefix ≡ prefix_of p n → (k i : ℕ) (g : ℕ → Row) → ((j : ℕ) → g j ≡ row_of w p (slot_of p (i + j)))
@@ -143,21 +157,20 @@ module _ (w : ℕ) (p : List ℕ) (z : fit_of w p ≡ 0) where
   unfolding header_of view_of
   spaced = let R = fits.r1 in (R.order, omega (arith, R.top), effective-used w (view_of w p) fits (length-rows w p))
 
--- ---- a page's text, told: the lines before the entries' are the front of the buffer
-module _ (s x : Sink) (w : ℕ) (p : List ℕ) (o m : List ℕ) (i layout f : ℕ) (l : layout ≡ pick (layout_of w p) 1 0) (e : f ≡ fit_of w p) (g : Wrote o 0 (verdict_text layout f) m i) where
-  pub told-unfit : 0 < f → i ≤ length o → x ≡ told s (take i m) → x ≡ told s (page_text w p)
+-- ---- a page's text: the lines before the entries' are the front of the buffer
+module _ (w : ℕ) (p : List ℕ) (o m : List ℕ) (i layout f : ℕ) (l : layout ≡ pick (layout_of w p) 1 0) (e : f ≡ fit_of w p) (g : Wrote o 0 (verdict_text layout f) m i) where
+  pub unfit_is : 0 < f → i ≤ length o → take i m ≡ page_text w p
   unfolding page_text
-  told-unfit h k t = t ∙ rw (front_is o (verdict_text layout f) m i g k, ne_eqb (fit_of w p) 0 (λ q. omega arith), append-nil, verdict_is w p, ← l, ← e)
+  unfit_is h k = rw (front_is o (verdict_text layout f) m i g k, ne_eqb (fit_of w p) 0 (λ q. omega arith), append-nil, verdict_is w p, ← l, ← e)
 
-  pub told_fit : (h : Header) (n : List ℕ) (j : ℕ) (r : Sink) → f ≤ 0 → h ≡ header_of p → Wrote m i (space_text h) n j → j ≤ length o
-      → x ≡ told s (take j n) → r ≡ told x (lines_text w p h.prefix_len 0 h.count) → r ≡ told s (page_text w p)
+  pub fit_is : (h : Header) (n : List ℕ) (j : ℕ) → f ≤ 0 → h ≡ header_of p → Wrote m i (space_text h) n j → j ≤ length o
+      → take j n ++ lines_text w p h.prefix_len 0 h.count ≡ page_text w p
   unfolding page_text
-  told_fit h n j r z q y k t u =
+  fit_is h n j z q y k =
       let line = verdict_text layout f in
       let lines = lines_text w p h.prefix_len 0 h.count in
-      let front : x ≡ told s (line ++ space_text h) = t ∙ ap (told s) (front_is o (line ++ space_text h) n j (then _ _ _ _ _ _ _ _ g y) k) in
-      u ∙ rw (front, told-append s (line ++ space_text h) lines, append_assoc line (space_text h) lines)
-      (ap (told s) (rw (eq-eqb (fit_of w p) 0 (omega arith), verdict_is w p, space_is p, listing_lines w p, ← q, ← l, ← e)))
+      rw (front_is o (line ++ space_text h) n j (then _ _ _ _ _ _ _ _ g y) k, append_assoc line (space_text h) lines)
+      (rw (eq-eqb (fit_of w p) 0 (omega arith), verdict_is w p, space_is p, listing_lines w p, ← q, ← l, ← e))
 
 -- ---- the refusal of an input
 pub refused-length : (l : List ℕ) → (length l ≡ 16385 → ⊥) → 1 ≡ refusal_of l
@@ -201,7 +214,7 @@ refused_is (w ∷ p) r e h = by_cases (eqb (length p) 16384) (is_width w) e
     by_cases true false q = rw q
     by_cases false b q = rw q
 
-page_is : (l : List ℕ) (r : ℕ) → r ≡ refusal_of l → r ≤ 0 → page_text (get_or l 0 0) (take (length l - 1) (drop 1 l)) ≡ printed l
+pub page_is : (l : List ℕ) (r : ℕ) → r ≡ refusal_of l → r ≤ 0 → page_text (get_or l 0 0) (take (length l - 1) (drop 1 l)) ≡ printed l
 unfolding printed
 page_is [] r e h = absurd (omega (arith, (accepted [] r e h).0))
 page_is (w ∷ p) r e h =
@@ -209,10 +222,6 @@ page_is (w ∷ p) r e h =
     let n : length (w ∷ p) - 1 ≡ length p = omega arith in
     rw (eq-eqb (length p) 16384 (omega (arith, a.0)), a.1, n, take_all (length p) p (omega arith))
 
--- ---- and told
-module _ (s x : Sink) (l : List ℕ) (r : ℕ) (e : r ≡ refusal_of l) where
-  pub told-refused : (o m : List ℕ) (i : ℕ) → 0 < r → Wrote o 0 (refused_line r) m i → i ≤ length o → x ≡ told s (take i m) → x ≡ told s (printed l)
-  told-refused o m i h g k t = t ∙ ap (told s) (front_is o (refused_line r) m i g k ∙ refused_is l r e h)
-
-  pub told-page : r ≤ 0 → x ≡ told s (page_text (get_or l 0 0) (take (length l - 1) (drop 1 l))) → x ≡ told s (printed l)
-  told-page h t = t ∙ ap (told s) (page_is l r e h)
+-- the line of a refusal, at the front of a buffer
+pub refused-text : (l : List ℕ) (r : ℕ) → r ≡ refusal_of l → (o m : List ℕ) (i : ℕ) → 0 < r → Wrote o 0 (refused_line r) m i → i ≤ length o → take i m ≡ printed l
+refused-text l r e o m i h g k = front_is o (refused_line r) m i g k ∙ refused_is l r e h

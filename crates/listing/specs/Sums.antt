@@ -1,5 +1,6 @@
 -- What a sink is after text went to it.
-use Rattle.std.specs.Prelude.{ℕ, ◌+◌, ◌*◌, ◌%◌, ◌<◌, List, [], ◌∷◌, eqb}
+use Rattle.std.specs.Prelude.{ℕ, ◌+◌, ◌*◌, ◌%◌, ◌<◌, List, [], ◌∷◌, eqb, ◌≡◌, ◌++◌, Option}
+use Rattle.std.specs.Io.KnownBytes.{Appends}
 use Rattle.keys.specs.Choice.{pick}
 use Rattle.listing.specs.declared.sink.Sink.{Sink}
 
@@ -23,3 +24,14 @@ added s x = sink s.mode ((31 * s.h1 + x + 1) % 4294967291) ((37 * s.h2 + x + 1) 
 unfoldable pub told : Sink → List ℕ → Sink
 told s [] = s
 told s (x ∷ l) = told (pick (eqb s.mode 0) s (added s x)) l
+
+-- what a sink of mode m prints of a text: all of it at mode 0, and at any other nothing
+unfoldable pub shown : ℕ → List ℕ → List ℕ
+shown m l = pick (eqb m 0) l []
+
+-- what is left of a writer that failed at a text l: its known bytes a became b, which are a and a front of l behind it
+pub record Stopped (a b : Option (List ℕ)) (l : List ℕ) : Type 0 where
+  pub front : List ℕ
+  pub rest : List ℕ
+  pub whole : l ≡ front ++ rest
+  pub bytes : Appends a b front

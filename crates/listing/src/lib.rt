@@ -1,6 +1,10 @@
-// The text of the listing: its lines in a buffer, the buffer filled piece by piece, each piece printed or summed.
+// The text of the listing: its lines in a buffer, the buffer filled piece by piece, each piece printed or summed. And how the
+// programs over it read their input.
+#![tactic(auto)]
+
 mod digits;
 pub mod lines;
 mod pieces;
 pub mod print;
+pub mod reading;
 pub mod sink;

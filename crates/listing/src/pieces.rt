@@ -8,7 +8,7 @@ use node::header;
 use paper::page::Header;
 
 // What a buffer was filled with: the entry whose line comes next, and the place after the text.
-#[derive(Drop)]
+#[derive(Clone, Copy)]
 pub struct Filled {
     pub next: usize,
     pub end: usize,

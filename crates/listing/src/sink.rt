@@ -1,9 +1,11 @@
-// Where the pieces of a text go: to standard output, or into a sum that stands for the text.
-ghost use Rattle.std.specs.Prelude.{◌≡◌, ◌<◌};
-ghost use Rattle.listing.specs.Sums.{Sound, begun, told};
+// Where the pieces of a text go: to a writer, or into a sum that stands for the text.
+ghost use Rattle.std.specs.Prelude.{◌≡◌, ◌<◌, IfOk, OnOk, OnErr};
+ghost use Rattle.std.specs.Io.KnownBytes.{Appends};
+ghost use Rattle.listing.specs.Sums.{Sound, begun, told, shown, Stopped};
 
-use libc::STDOUT_FILENO;
 use octets::number;
+use std::io;
+use std::io::Write;
 
 // Pieces are printed at mode 0 and summed at any other: two sums over their bytes, and how many there were modulo 2^32.
 #[derive(Drop)]
@@ -26,16 +28,42 @@ pub(crate) fn begin(mode: u8) -> Sink
     }
 }
 
-// Sends a piece to the sink. Nothing else here writes to standard output.
-pub(crate) fn emit(sink: Sink, piece: &[u8]) -> Sink
+// Sends a piece to the sink. Nothing else here writes; an error is the writer's, and none comes where the piece is summed.
+pub(crate) fn emit<W: Write>(to: &mut W, sink: Sink, piece: &[u8]) -> io::Result<Sink>
     requires { Sound sink }
-    ensures { (result ≡ told sink piece.now) × Sound result }
+    ensures ok { IfOk result (λ s. (s ≡ told sink piece.now) × Sound s) }
+    ensures bytes { OnOk result (Appends (W.contents to.old) (W.contents to.new) (shown sink.mode piece.now)) }
+    ensures err { OnErr result (sink.mode ≡ 0) }
+    ensures left { OnErr result (Stopped (W.contents to.old) (W.contents to.new) (shown sink.mode piece.now)) }
 {
     if 0 < sink.mode {
-        return add(sink, piece);
+        return Ok(add(sink, piece));
     }
-    io::write_all(STDOUT_FILENO, piece);
-    sink
+    write_piece(to, piece)?;
+    Ok(sink)
+}
+
+// Writes all of a piece, as `write_all` does; a failure leaves a front of it behind what the writer held.
+fn write_piece<W: Write>(to: &mut W, piece: &[u8]) -> io::Result<()>
+    ensures ok { OnOk result (Appends (W.contents to.old) (W.contents to.new) piece.now) }
+    ensures left { OnErr result (Stopped (W.contents to.old) (W.contents to.new) piece.now) }
+{
+    let mut done = 0;
+    for _ in 0..u64::MAX {
+        if done == piece.len() {
+            return Ok(());
+        }
+        match to.write(&piece[done..]) {
+            Ok(0) => return Err(io::Error::from(io::ErrorKind::WriteZero)),
+            Ok(n) => done += n,
+            Err(e) => {
+                if e.kind() != io::ErrorKind::Interrupted {
+                    return Err(e);
+                }
+            }
+        }
+    }
+    Err(io::Error::from(io::ErrorKind::Interrupted))
 }
 
 // Adds the bytes of a piece to the sums.

@@ -1,64 +1,70 @@
 // Listings of many inputs: a stream of records on standard input, each a mode byte, a length of four bytes, the lowest first,
 // and so many bytes, at most 20,000, which stand for the listing program's input. Each is answered by what that program
 // prints (mode 0), or by the sums of this text (any other mode). A record cut short, or one too long, is answered `cut` and
-// ends the program.
-use libc::{STDIN_FILENO, STDOUT_FILENO};
-use listing::sink::Sink;
-use listing::{lines, print};
-use octets::number;
+// ends the program, as does, with the error, a read or a write that fails.
+#![tactic(auto)]
 
-fn main() {
+use listing::sink::Sink;
+use listing::{lines, print, reading};
+use octets::number;
+use std::io;
+use std::io::{Read, Write};
+
+fn main(rt: HostRuntime) -> io::Result<()> {
     let mut input = [0u8; 20000];
-    serve_all(&mut input);
+    serve_all(&mut rt.stdin(), &mut rt.stdout(), &mut input)
 }
 
-// Answers record after record. A proved loop has to end, and nothing says that the input does: it counts down from a number
-// that no run uses up.
-fn serve_all(input: &mut [u8]) {
-    let mut left: u64 = 18446744073709551615;
-    while 0 < left && serve(input) {
-        left -= 1;
+// Answers record after record. A proved loop has to end, and nothing says that the input does: it counts up to a number that
+// no run reaches.
+fn serve_all<R: Read, W: Write>(from: &mut R, to: &mut W, input: &mut [u8]) -> io::Result<()> {
+    for _ in 0..u64::MAX {
+        if !serve(from, to, input)? {
+            break;
+        }
     }
+    Ok(())
 }
 
 // Takes one record and answers it; false where the program ends.
-fn serve(input: &mut [u8]) -> bool {
+fn serve<R: Read, W: Write>(from: &mut R, to: &mut W, input: &mut [u8]) -> io::Result<bool> {
     let mut head = [0u8; 5];
-    let got = io::read_full(STDIN_FILENO, &mut head);
+    let got = reading::read_full(from, &mut head)?;
     if got == 0 {
-        return false;
+        return Ok(false);
     }
     if got < 5 {
-        return cut();
+        return cut(to);
     }
     let n = number::read_u32(&head, 1) as usize;
     if input.len() < n {
-        return cut();
+        return cut(to);
     }
-    if io::read_full(STDIN_FILENO, &mut input[..n]) < n {
-        return cut();
+    if reading::read_full(from, &mut input[..n])? < n {
+        return cut(to);
     }
-    answer(&input[..n], head[0])
+    answer(to, &input[..n], head[0])?;
+    Ok(true)
 }
 
 // Answers a record.
-fn answer(input: &[u8], mode: u8) -> bool {
-    let sink = print::print(input, mode);
+fn answer<W: Write>(to: &mut W, input: &[u8], mode: u8) -> io::Result<()> {
+    let sink = print::print(to, input, mode)?;
     if 0 < mode {
-        return tell(sink);
+        return tell(to, sink);
     }
-    true
+    Ok(())
 }
 
 // Writes the line of a text's sums.
-fn tell(sink: Sink) -> bool {
+fn tell<W: Write>(to: &mut W, sink: Sink) -> io::Result<()> {
     let mut out = [0u8; 67];
     let end = lines::sum_line(sink, &mut out, 0);
-    io::write_all(STDOUT_FILENO, &out[..end])
+    to.write_all(&out[..end])
 }
 
-// The answer to a record cut short.
-fn cut() -> bool {
-    io::write_all(STDOUT_FILENO, b"cut\n");
-    false
+// The answer to a record cut short, with which the program ends.
+fn cut<W: Write>(to: &mut W) -> io::Result<bool> {
+    to.write_all(b"cut\n")?;
+    Ok(false)
 }

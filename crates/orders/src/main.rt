@@ -1,42 +1,56 @@
 // The same 240 records filed in several orders on pages that were alike, at every width, with hints and without, with short keys
 // and with long ones: one line for each case, which tells whether listing and header agree in all orders (1) or not (0), whether
 // a batch agrees, and whether find and a scan agree.
+#![tactic(auto)]
+
 mod agree;
 mod pages;
 mod records;
 
+use std::io;
+use std::io::Write;
+
 // What two pages agree in.
-#[derive(Drop)]
+#[derive(Clone, Copy)]
 struct Agreed {
     listing: bool,
     header: bool,
 }
 
-fn main() {
-    cases_of(0);
-    cases_of(1);
-    cases_of(8);
+fn main(rt: HostRuntime) -> io::Result<()> {
+    let mut out = rt.stdout();
+    cases_of(&mut out, 0)?;
+    cases_of(&mut out, 1)?;
+    cases_of(&mut out, 8)
 }
 
 // The cases of a width.
-fn cases_of(width: u8) {
-    case_of(width, false, false);
-    case_of(width, false, true);
-    case_of(width, true, false);
-    case_of(width, true, true);
+fn cases_of<W: Write>(out: &mut W, width: u8) -> io::Result<()> {
+    case_of(out, width, false, false)?;
+    case_of(out, width, false, true)?;
+    case_of(out, width, true, false)?;
+    case_of(out, width, true, true)
 }
 
 // A case: the page of rising records, and what agrees with it.
-fn case_of(width: u8, hints: bool, long: bool) {
+fn case_of<W: Write>(out: &mut W, width: u8, hints: bool, long: bool) -> io::Result<()> {
     let mut first = [165u8; 16384];
     let filed = pages::file_order(&mut first, width, hints, long, 0);
-    print_case(width, hints, long, filed);
+    print_case(out, width, hints, long, filed)?;
     let orders = hold_orders(&first, width, hints, long);
-    print_yes(b", listings agree ", orders.listing);
-    print_yes(b", headers agree ", orders.header);
-    print_yes(b", batch agrees ", hold_batch(&first, width, hints, long));
-    print_yes(b", finds agree ", agree::finds_agree(&first, width, long));
-    io::write_all(1, b"\n");
+    print_yes(out, b", listings agree ", orders.listing)?;
+    print_yes(out, b", headers agree ", orders.header)?;
+    print_yes(
+        out,
+        b", batch agrees ",
+        hold_batch(&first, width, hints, long),
+    )?;
+    print_yes(
+        out,
+        b", finds agree ",
+        agree::finds_agree(&first, width, long),
+    )?;
+    out.write_all(b"\n")
 }
 
 // What the pages of the three other orders all agree in with the first page.
@@ -68,22 +82,24 @@ fn hold_batch(first: &[u8], width: u8, hints: bool, long: bool) -> bool {
 }
 
 // The case, and how many records were filed.
-fn print_case(width: u8, hints: bool, long: bool, filed: u8) {
-    io::write_all(1, b"width ");
-    io::print_decimal(1, width as u64);
-    print_yes(b" hints ", hints);
-    print_yes(b" long ", long);
-    io::write_all(1, b": ");
-    io::print_decimal(1, filed as u64);
-    io::write_all(1, b" filed");
+fn print_case<W: Write>(
+    out: &mut W,
+    width: u8,
+    hints: bool,
+    long: bool,
+    filed: u8,
+) -> io::Result<()> {
+    write!(out, "width {width}")?;
+    print_yes(out, b" hints ", hints)?;
+    print_yes(out, b" long ", long)?;
+    write!(out, ": {filed} filed")
 }
 
 // A text, and 1 for yes or 0 for no.
-fn print_yes(text: &[u8], yes: bool) {
-    io::write_all(1, text);
+fn print_yes<W: Write>(out: &mut W, text: &[u8], yes: bool) -> io::Result<()> {
+    out.write_all(text)?;
     if yes {
-        io::write_all(1, b"1");
-        return;
+        return out.write_all(b"1");
     }
-    io::write_all(1, b"0");
+    out.write_all(b"0")
 }
