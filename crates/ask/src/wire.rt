@@ -1,8 +1,4 @@
 // Requests from a reader, and answers to a writer. Numbers are little-endian.
-ghost use Rattle.std.specs.Prelude.{◌≤◌, ◌<◌, ℕ, take, length, IfOk, OnErr};
-ghost use Rattle.std.specs.Io.{ReadsAtMost};
-ghost use Rattle.std.specs.Io.KnownBytes.{Consumes, IsAtEnd};
-
 use dorgumanna::answer;
 use dorgumanna::answer::Answer;
 use octets::number;
@@ -42,38 +38,18 @@ pub(crate) fn front(bytes: &[u8], n: usize) -> &[u8] {
     &bytes[..n]
 }
 
-// Reads until `bytes` is full or the input ends; answers how many bytes it put at their front. An error is the reader's, and what
-// was read before it stands at the front too.
-fn read_full<R: Read>(input: &mut R, bytes: &mut [u8]) -> io::Result<usize>
-    ensures bound { ReadsAtMost result bytes.new }
-    ensures read { IfOk result (λ n. Consumes (R.remaining input.old) (R.remaining input.new) (take n bytes.new)) }
-    ensures end { IfOk result (λ n. n < length bytes.new → IsAtEnd (R.remaining input.new)) }
-    ensures err { OnErr result (0 < length bytes.new) }
-    ensures left { OnErr result ((n : ℕ) × (n ≤ length bytes.new) × Consumes (R.remaining input.old) (R.remaining input.new) (take n bytes.new)) }
-{
-    let mut done = 0;
-    while done < bytes.len() {
-        let n = input.read(&mut bytes[done..])?;
-        if n == 0 {
-            break;
-        }
-        done += n;
-    }
-    Ok(done)
-}
-
 // Reads `n` bytes to the front of `bytes`; false where they do not fit or the input ends before.
 fn read_run<R: Read>(input: &mut R, bytes: &mut [u8], n: usize) -> io::Result<bool> {
     if bytes.len() < n {
         return Ok(false);
     }
-    Ok(read_full(input, &mut bytes[..n])? == n)
+    Ok(reading::read_full(input, &mut bytes[..n])? == n)
 }
 
 // Reads a run's length, then the run. Answers the length; one above 82,000 where there is no such run.
 fn read_counted<R: Read>(input: &mut R, bytes: &mut [u8]) -> io::Result<usize> {
     let mut four = [0u8; 4];
-    if read_full(input, &mut four)? != 4 {
+    if reading::read_full(input, &mut four)? != 4 {
         return Ok(82001);
     }
     let n = number::read_u32(&four, 0) as usize;
@@ -90,7 +66,7 @@ pub(crate) fn receive<R: Read>(
     second: &mut [u8],
 ) -> io::Result<Arrival> {
     let mut head = [0u8; 28];
-    let got = read_full(input, &mut head)?;
+    let got = reading::read_full(input, &mut head)?;
     if got == 0 {
         return Ok(Arrival::End);
     }

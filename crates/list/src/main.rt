@@ -2,7 +2,7 @@
 // A read or a write that fails ends it with the error.
 #![tactic(auto)]
 
-use listing::{print, reading};
+use listing::print;
 use std::io;
 
 fn main(rt: HostRuntime) -> io::Result<()> {

@@ -5,7 +5,7 @@
 #![tactic(auto)]
 
 use listing::sink::Sink;
-use listing::{lines, print, reading};
+use listing::{lines, print};
 use octets::number;
 use std::io;
 use std::io::{Read, Write};
