@@ -7,13 +7,12 @@ use child::lookup;
 use dorgumanna::answer;
 use node::{key, space, trailing};
 use octets::number;
-use paper::answers::{Copied, Space, SpaceRead};
+use paper::answers::Space;
 use search::{bound, compare, find};
 use std::io;
 use std::io::Write;
 use verdict::{fit, layout};
 use view::entry;
-use view::entry::EntryShown;
 
 // Answers a request whose runs stand at the front of `first` and `second`.
 pub(crate) fn answer<W: Write>(
@@ -27,11 +26,11 @@ pub(crate) fn answer<W: Write>(
 {
     if q.call == 16 {
         let n = space::need(q.width, q.a as usize, wire::front(first, q.n));
-        return wire::tell(output, answer::needed(n));
+        return wire::tell(output, answer::tell(n));
     }
     if q.call == 17 {
         let f = space::forecast(wire::front(first, q.n), wire::front(second, q.m));
-        return wire::tell(output, answer::forecast(f));
+        return wire::tell(output, answer::tell(f));
     }
     if 3 < q.page {
         return wire::broken(output);
@@ -85,19 +84,16 @@ fn on_page<W: Write>(
     }
     if q.call == 14 {
         let t = trailing::trailing_id(page, q.width, q.a as usize);
-        return wire::tell(output, answer::trailing(t));
+        return wire::tell(output, answer::tell(t));
     }
     if q.call == 15 {
         return space_of(output, page);
     }
     if q.call == 18 {
-        return wire::tell(
-            output,
-            answer::verdict(layout::layout_verdict(page, q.width)),
-        );
+        return wire::tell(output, answer::tell(layout::layout_verdict(page, q.width)));
     }
     if q.call == 19 {
-        return wire::tell(output, answer::verdict(fit::fit_verdict(page, q.width)));
+        return wire::tell(output, answer::tell(fit::fit_verdict(page, q.width)));
     }
     if q.call == 21 {
         return wire::pair(output, digest(page), 0);
@@ -108,26 +104,20 @@ fn on_page<W: Write>(
 // Answers a call that holds a key against a page.
 fn on_key<W: Write>(output: &mut W, page: &[u8], key: &[u8], q: Request) -> io::Result<bool> {
     if q.call == 7 {
-        return wire::tell(output, answer::found(find::find(page, q.width, key)));
+        return wire::tell(output, answer::tell(find::find(page, q.width, key)));
     }
     if q.call == 8 {
-        return wire::tell(
-            output,
-            answer::bounded(bound::lower_bound(page, q.width, key)),
-        );
+        return wire::tell(output, answer::tell(bound::lower_bound(page, q.width, key)));
     }
     if q.call == 9 {
-        return wire::tell(
-            output,
-            answer::bounded(bound::upper_bound(page, q.width, key)),
-        );
+        return wire::tell(output, answer::tell(bound::upper_bound(page, q.width, key)));
     }
     if q.call == 10 {
         let c = compare::compare_slot(page, q.width, q.a as usize, key);
-        return wire::tell(output, answer::compared(c));
+        return wire::tell(output, answer::tell(c));
     }
     if q.call == 11 {
-        return wire::tell(output, answer::child(lookup::child(page, key)));
+        return wire::tell(output, answer::tell(lookup::child(page, key)));
     }
     wire::broken(output)
 }
@@ -135,8 +125,8 @@ fn on_key<W: Write>(output: &mut W, page: &[u8], key: &[u8], q: Request) -> io::
 // Entry: its value, and its key by way of `out`.
 fn entry_of<W: Write>(output: &mut W, page: &[u8], q: Request, out: &mut [u8]) -> io::Result<bool> {
     match entry::entry(page, q.width, q.a as usize, out) {
-        EntryShown::Is(v, n) => wire::reply(output, 0, v, 0, wire::front(out, n)),
-        EntryShown::Refused(r) => wire::refused(output, r),
+        Ok(e) => wire::reply(output, 0, e.value, 0, wire::front(out, e.key_len)),
+        Err(r) => wire::refused(output, r),
     }
 }
 
@@ -152,16 +142,16 @@ fn copy_of<W: Write>(
     }
     let out = &mut second[..q.m];
     match key::copy_key(page, q.width, q.a as usize, out) {
-        Copied::Bytes(n) => wire::reply(output, 0, n as u64, 0, out),
-        Copied::Refused(r) => wire::refused_with(output, r, out),
+        Ok(n) => wire::reply(output, 0, n as u64, 0, out),
+        Err(r) => wire::refused_with(output, r, out),
     }
 }
 
 // The space numbers.
 fn space_of<W: Write>(output: &mut W, page: &[u8]) -> io::Result<bool> {
     match space::space_numbers(page) {
-        SpaceRead::Are(s) => space_told(output, s),
-        SpaceRead::Refused(r) => wire::refused(output, r),
+        Ok(s) => space_told(output, s),
+        Err(r) => wire::refused(output, r),
     }
 }
 
@@ -182,12 +172,10 @@ fn space_told<W: Write>(output: &mut W, s: Space) -> io::Result<bool> {
 fn digest(bytes: &[u8]) -> u64 {
     let mut h1: u64 = 0;
     let mut h2: u64 = 0;
-    let mut i = 0;
-    while i < bytes.len() {
-        let x = number::byte(bytes, i);
+    for &byte in bytes {
+        let x = byte as u64;
         h1 = (31 * h1 + x + 1) % 4294967291;
         h2 = (37 * h2 + x + 1) % 4294967279;
-        i += 1;
     }
     4294967296 * h1 + h2
 }

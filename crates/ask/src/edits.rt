@@ -49,7 +49,7 @@ fn edit_page<W: Write>(
     if q.call == 3 {
         return wire::tell(
             output,
-            answer::filed(insert::insert(page, q.width, first, q.a)),
+            answer::tell(insert::insert(page, q.width, first, q.a)),
         );
     }
     if q.call == 20 {
@@ -58,12 +58,12 @@ fn edit_page<W: Write>(
     if q.call == 4 {
         return wire::tell(
             output,
-            answer::replaced(set::set_value(page, q.width, first, q.a, q.b)),
+            answer::tell(set::set_value(page, q.width, first, q.a, q.b)),
         );
     }
     wire::tell(
         output,
-        answer::edited(change::change_key(page, q.width, q.a as usize, first)),
+        answer::tell(change::change_key(page, q.width, q.a as usize, first)),
     )
 }
 
@@ -96,7 +96,7 @@ fn begun<W: Write>(
         return wire::broken(output);
     }
     let done = begin::begin(page, q.a as u16, q.b, lower, q.c, upper, q.width == 1);
-    wire::tell(output, answer::edited(done))
+    wire::tell(output, answer::tell(done))
 }
 
 // Run copy: the source goes through `room`, so that the destination alone is lent from the registers. Two registers that
@@ -127,7 +127,7 @@ fn run_copied<W: Write>(
         q.a as usize,
         q.b as usize,
     );
-    wire::tell(output, answer::edited(done))
+    wire::tell(output, answer::tell(done))
 }
 
 // The content of register `r` to the front of `room`; answers its length.

@@ -1,16 +1,12 @@
 -- A sign or a slot number as a word. A signed local is read back from its bits, so each law speaks of a y that is z.
 use mathlib.Core.Path.{◌≡◌, refl, sym, ap, subst, ◌∙◌}
 use mathlib.Core.Bool.{true, false}
-use mathlib.Core.List.{[], ◌∷◌}
 use Prim.Native.Nat.{ℕ}
 use lib.Dec.{T, ltb→lt}
 use lib.IntN.{ℤ, pos, negsuc, nat_abs}
 use lib.Signed.{lt_z, non_neg}
 use native.Mathlib.Nat.{not-suc-le-zero}
-use Rattle.paper.specs.Answers.{answered, compared_says, child_says}
-use Rattle.paper.specs.declared.answers.Compared.TheVariants.{Sign}
-use Rattle.paper.specs.declared.answers.Child.TheVariants.{At as Child-as-At}
-use Rattle.dorgumanna.specs.Told.{word, first, second, told}
+use Rattle.dorgumanna.specs.Told.{word}
 
 below : (z : ℤ) → lt_z z (pos 0) ≡ true → 18446744073709551615 ≡ word z
 unfolding word
@@ -33,13 +29,3 @@ word-above y z same e = above y e ∙ ap word same
 pub not_below : (y : ℤ) → lt_z y (pos 0) ≡ false → T (non_neg y)
 not_below (pos n) e = tt
 not_below (negsuc n) e = absurd (subst T e tt)
-
--- a sign told as its word
-pub sign_told : (n : ℕ) (z : ℤ) → n ≡ word z → told (answered (pos n ∷ [])) ≡ told (compared_says (Sign z))
-unfolding told first second word compared_says
-sign_told n z e = ap (λ m. record { number = 0; a = m; b = 0 }) e
-
--- a slot number told as its word, with a value
-pub slot-told : (n : ℕ) (z : ℤ) (v : ℕ) → n ≡ word z → told (answered (pos n ∷ pos v ∷ [])) ≡ told (child_says (Child-as-At z v))
-unfolding told first second word child_says
-slot-told n z v e = ap (λ m. record { number = 0; a = m; b = v }) e

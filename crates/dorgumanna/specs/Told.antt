@@ -1,13 +1,13 @@
 -- What a caller in C is told: the number of `paper`'s answers, and their values as words of 64 bits.
-use Rattle.std.specs.Prelude.{ℕ, List, [], ◌∷◌, ℤ, pos, negsuc}
+use Rattle.std.specs.Prelude.{ℕ, List, [], ◌∷◌, ℤ, pos, negsuc, Result, Ok, Err}
 use Rattle.paper.specs.Refusals.{number_of, carried_by}
 use Rattle.paper.specs.Answers.{Said}
-use Rattle.paper.specs.declared.answers.SpaceRead.{SpaceRead}
-use Rattle.paper.specs.declared.answers.SpaceRead.TheVariants.{Are, Refused}
-use Rattle.filing.specs.declared.batch.Batched.{Batched}
-use Rattle.filing.specs.declared.batch.Batched.TheVariants.{Filed as Batched-as-Filed, Refused as Batched-as-Refused, Cut}
+use Rattle.filing.specs.declared.batch.NotFiled.{NotFiled}
+use Rattle.filing.specs.declared.batch.NotFiled.TheVariants.{Refused, Cut}
 use Rattle.dorgumanna.specs.declared.answer.Answer.{Answer}
 use Rattle.dorgumanna.specs.declared.answer.SpaceAnswer.{SpaceAnswer}
+use Rattle.paper.specs.declared.refusal.Refusal.{Refusal}
+use Rattle.paper.specs.declared.answers.Space.{Space}
 
 -- a number in two's complement of 64 bits; the one negative number that a call answers is -1
 unfoldable pub word : ℤ → ℕ
@@ -28,8 +28,8 @@ unfoldable pub told : Said → Answer
 told s = record { number = s.number; a = first s.values; b = second s.values }
 
 -- the space numbers; a refusal has 0 for each of them
-unfoldable pub space_told : SpaceRead → SpaceAnswer
-space_told (Are s) =
+unfoldable pub space_told : Result Space Refusal → SpaceAnswer
+space_told (Ok s) =
     record {
       number = 0;
       carried = 0;
@@ -41,7 +41,7 @@ space_told (Are s) =
       reclaimable = s.reclaimable;
       compacted = s.compacted;
     }
-space_told (Refused r) =
+space_told (Err r) =
     record {
       number = number_of r;
       carried = carried_by r;
@@ -56,7 +56,7 @@ space_told (Refused r) =
 
 -- a batch: the number of records; or the refusal's number, the place of the record refused and what the refusal carries; 255 where the
 -- buffer ends inside a record
-unfoldable pub batch_told : Batched → Answer
-batch_told (Batched-as-Filed n) = record { number = 0; a = n; b = 0 }
-batch_told (Batched-as-Refused i r) = record { number = number_of r; a = i; b = carried_by r }
-batch_told Cut = record { number = 255; a = 0; b = 0 }
+unfoldable pub batch_told : Result ℕ NotFiled → Answer
+batch_told (Ok n) = record { number = 0; a = n; b = 0 }
+batch_told (Err (Refused i r)) = record { number = number_of r; a = i; b = carried_by r }
+batch_told (Err Cut) = record { number = 255; a = 0; b = 0 }

@@ -1,15 +1,13 @@
 // Answers as C sees them.
-ghost use Rattle.std.specs.Prelude.{◌≡◌, pos, [], ◌∷◌};
-ghost use Rattle.paper.specs.Answers.{answered, refused as says, found_says, bound_says, compared_says, entry_says, copied_says, trailing_says, needed_says, forecast_says, child_says, verdict_says, edited_says, filed_says, replaced_says};
-ghost use Rattle.paper.specs.declared.answers.SpaceRead.TheVariants.{Are, Refused as SpaceRefused};
+#![tactic(auto, unfolding(crate::specs::Told::told, crate::specs::Told::first, crate::specs::Told::second, crate::specs::Told::word, crate::specs::Told::space_told, crate::specs::Told::batch_told, paper::specs::Answers::nothing_values, paper::specs::Answers::number_values, paper::specs::Answers::sign_values, paper::specs::Answers::yes_values, paper::specs::Answers::found_values, paper::specs::Answers::child_values, paper::specs::Answers::entry_values, paper::specs::Answers::forecast_values))]
+
+ghost use Rattle.std.specs.Prelude.{◌≡◌, List, ℤ, pos, [], ◌∷◌, Ok, Err};
+ghost use Rattle.paper.specs.Answers.{answered, refused, says, nothing_values, number_values, sign_values, yes_values, found_values, child_values, entry_values, forecast_values};
 ghost use Rattle.dorgumanna.specs.Told.{word, told, space_told, batch_told};
 
 use crate::numbers;
-use filing::batch::Batched;
-use paper::answers::{
-    Bound, Child, Compared, Copied, Edited, EntryRead, Filed, Forecast, Found, Needed, Replaced,
-    Space, SpaceRead, Trailing, Verdict,
-};
+use filing::batch::NotFiled;
+use paper::answers::{Child, EntryRead, Forecast, Found, Space};
 use paper::refusal::Refusal;
 
 // 0 and the call's values, or the number of a refusal and what it carries; values that there are not are 0.
@@ -37,7 +35,7 @@ pub struct SpaceAnswer {
 }
 
 // No value.
-pub fn none() -> Answer
+fn none() -> Answer
     ensures { result ≡ told (answered []) }
 {
     Answer {
@@ -48,14 +46,14 @@ pub fn none() -> Answer
 }
 
 // One value.
-pub fn one(a: u64) -> Answer
+fn one(a: u64) -> Answer
     ensures { result ≡ told (answered (pos a ∷ [])) }
 {
     Answer { number: 0, a, b: 0 }
 }
 
 // Two values.
-pub fn two(a: u64, b: u64) -> Answer
+fn two(a: u64, b: u64) -> Answer
     ensures { result ≡ told (answered (pos a ∷ pos b ∷ [])) }
 {
     Answer { number: 0, a, b }
@@ -63,7 +61,7 @@ pub fn two(a: u64, b: u64) -> Answer
 
 // A refusal.
 pub fn refusal(r: Refusal) -> Answer
-    ensures { result ≡ told (says r) }
+    ensures { result ≡ told (refused r) }
 {
     Answer {
         number: numbers::number_of(r),
@@ -72,124 +70,141 @@ pub fn refusal(r: Refusal) -> Answer
     }
 }
 
-// Find: the slot and 1, or the number of smaller keys and 0.
-pub fn found(f: Found) -> Answer
-    ensures { result ≡ told (found_says f) }
-{
-    match f {
-        Found::Equal(i) => two(i as u64, 1),
-        Found::Smaller(i) => two(i as u64, 0),
-        Found::Refused(r) => refusal(r),
-    }
-}
+// What a call answers where it is not refused: none, one or two values.
+pub trait Values: Copy {
+    ghost values: { Self → List ℤ };
 
-// A bound.
-pub fn bounded(f: Bound) -> Answer
-    ensures { result ≡ told (bound_says f) }
-{
-    match f {
-        Bound::At(i) => one(i as u64),
-        Bound::Refused(r) => refusal(r),
-    }
-}
-
-// A sign in two's complement of 64 bits.
-fn signed_word(s: i8) -> u64
-    ensures { result ≡ word s }
-{
-    if s < 0 {
-        return 18446744073709551615;
-    }
-    s as u64
-}
-
-// Compare: -1, 0 or 1.
-pub fn compared(f: Compared) -> Answer
-    ensures { result ≡ told (compared_says f) }
-{
-    match f {
-        Compared::Sign(s) => one(signed_word(s)),
-        Compared::Refused(r) => refusal(r),
-    }
-}
-
-// A slot number, or -1, in two's complement of 64 bits.
-fn slot_word(i: i32) -> u64
-    ensures { result ≡ word i }
-{
-    if i < 0 {
-        return 18446744073709551615;
-    }
-    i as u64
-}
-
-// Child: the slot, or -1, and the child's value.
-pub fn child(f: Child) -> Answer
-    ensures { result ≡ told (child_says f) }
-{
-    match f {
-        Child::At(i, v) => two(slot_word(i), v),
-        Child::Refused(r) => refusal(r),
-    }
-}
-
-// A verdict.
-pub fn verdict(f: Verdict) -> Answer
-    ensures { result ≡ told (verdict_says f) }
-{
-    match f {
-        Verdict::Is(n) => one(n as u64),
-        Verdict::Refused(r) => refusal(r),
-    }
+    // 0 and the values.
+    fn answer(self) -> Answer
+        ensures { result ≡ told (answered (values self)) };
 }
 
 // Begin, change key, run copy: done.
-pub fn edited(f: Edited) -> Answer
-    ensures { result ≡ told (edited_says f) }
-{
-    match f {
-        Edited::Done => none(),
-        Edited::Refused(r) => refusal(r),
+impl Values for () {
+    ghost values = { nothing_values };
+
+    fn answer(self) -> Answer {
+        none()
     }
 }
 
-// Insert: the slot number.
-pub fn filed(f: Filed) -> Answer
-    ensures { result ≡ told (filed_says f) }
-{
-    match f {
-        Filed::At(i) => one(i as u64),
-        Filed::Refused(r) => refusal(r),
+// A slot number, a number of keys, a key's length.
+impl Values for usize {
+    ghost values = { number_values };
+
+    fn answer(self) -> Answer {
+        one(self as u64)
     }
 }
 
-// Set value: the old value.
-pub fn replaced(f: Replaced) -> Answer
-    ensures { result ≡ told (replaced_says f) }
+// A value, a trailing id, a need.
+impl Values for u64 {
+    ghost values = { number_values };
+
+    fn answer(self) -> Answer {
+        one(self)
+    }
+}
+
+// The fit verdict: 0, or the first rule broken.
+impl Values for u8 {
+    ghost values = { number_values };
+
+    fn answer(self) -> Answer {
+        one(self as u64)
+    }
+}
+
+// The layout verdict: 1 yes, 0 no.
+impl Values for bool {
+    ghost values = { yes_values };
+
+    fn answer(self) -> Answer {
+        one(self as u64)
+    }
+}
+
+// Compare: -1, 0 or 1.
+impl Values for i8 {
+    ghost values = { sign_values };
+
+    fn answer(self) -> Answer {
+        one(signed_word(i32::from(self)))
+    }
+}
+
+// Find: the slot and 1, or the number of smaller keys and 0.
+impl Values for Found {
+    ghost values = { found_values };
+
+    fn answer(self) -> Answer {
+        match self {
+            Found::Equal(i) => two(i as u64, 1),
+            Found::Smaller(i) => two(i as u64, 0),
+        }
+    }
+}
+
+// Child: the slot, or -1, and the child's value.
+impl Values for Child {
+    ghost values = { child_values };
+
+    fn answer(self) -> Answer {
+        two(signed_word(self.slot), self.value)
+    }
+}
+
+// Entry: its value.
+impl Values for EntryRead {
+    ghost values = { entry_values };
+
+    fn answer(self) -> Answer {
+        one(self.value)
+    }
+}
+
+// Forecast: prefix length, and space.
+impl Values for Forecast {
+    ghost values = { forecast_values };
+
+    fn answer(self) -> Answer {
+        two(self.prefix_len as u64, self.space as u64)
+    }
+}
+
+// A sign, a slot number, or -1, in two's complement of 64 bits.
+fn signed_word(n: i32) -> u64
+    ensures { result ≡ word n }
 {
-    match f {
-        Replaced::Old(v) => one(v),
-        Replaced::Refused(r) => refusal(r),
+    if n < 0 {
+        return 18446744073709551615;
+    }
+    n as u64
+}
+
+// What a call answers: 0 and its values, or its refusal.
+pub fn tell<T: Values>(answered: Result<T, Refusal>) -> Answer
+    ensures { result ≡ told (says T.values answered) }
+{
+    match answered {
+        Ok(values) => values.answer(),
+        Err(r) => refusal(r),
     }
 }
 
 // Batch: the number of records filed; or a refusal's number, the place of the record refused and what the refusal carries; or
 // 255 where the buffer ends inside a record.
-pub fn batched(f: Batched) -> Answer
-    ensures { result ≡ batch_told f }
+pub fn batched(filed: Result<usize, NotFiled>) -> Answer
+    ensures { result ≡ batch_told filed }
 {
-    match f {
-        Batched::Filed(n) => Answer {
-            number: 0,
-            a: n as u64,
-            b: 0,
-        },
-        Batched::Refused(i, r) => Answer {
+    match filed {
+        Ok(n) => one(n as u64),
+        Err(NotFiled::Refused(i, r)) => Answer {
             number: numbers::number_of(r),
             a: i as u64,
             b: numbers::carried_by(r),
         },
-        Batched::Cut => Answer {
+        Err(NotFiled::Cut) => Answer {
             number: 255,
             a: 0,
             b: 0,
@@ -197,68 +212,18 @@ pub fn batched(f: Batched) -> Answer
     }
 }
 
-// Entry: its value.
-pub fn entry(f: EntryRead) -> Answer
-    ensures { result ≡ told (entry_says f) }
-{
-    match f {
-        EntryRead::Is(_, v) => one(v),
-        EntryRead::Refused(r) => refusal(r),
-    }
-}
-
-// Key copy: the key's length.
-pub fn copied(f: Copied) -> Answer
-    ensures { result ≡ told (copied_says f) }
-{
-    match f {
-        Copied::Bytes(n) => one(n as u64),
-        Copied::Refused(r) => refusal(r),
-    }
-}
-
-// Trailing id.
-pub fn trailing(f: Trailing) -> Answer
-    ensures { result ≡ told (trailing_says f) }
-{
-    match f {
-        Trailing::Id(v) => one(v),
-        Trailing::Refused(r) => refusal(r),
-    }
-}
-
-// Need of an entry.
-pub fn needed(f: Needed) -> Answer
-    ensures { result ≡ told (needed_says f) }
-{
-    match f {
-        Needed::Bytes(n) => one(n),
-        Needed::Refused(r) => refusal(r),
-    }
-}
-
-// Forecast: prefix length, and space.
-pub fn forecast(f: Forecast) -> Answer
-    ensures { result ≡ told (forecast_says f) }
-{
-    match f {
-        Forecast::Are(n, bytes) => two(n as u64, bytes as u64),
-        Forecast::Refused(r) => refusal(r),
-    }
-}
-
 // The space numbers.
-pub fn space(f: SpaceRead) -> SpaceAnswer
-    ensures { result ≡ space_told f }
+pub fn space(read: Result<Space, Refusal>) -> SpaceAnswer
+    ensures { result ≡ space_told read }
 {
-    match f {
-        SpaceRead::Are(s) => space_are(s),
-        SpaceRead::Refused(r) => space_refused(r),
+    match read {
+        Ok(s) => space_are(s),
+        Err(r) => space_refused(r),
     }
 }
 
 fn space_are(s: Space) -> SpaceAnswer
-    ensures { result ≡ space_told (Are s) }
+    ensures { result ≡ space_told (Ok s) }
 {
     SpaceAnswer {
         number: 0,
@@ -274,7 +239,7 @@ fn space_are(s: Space) -> SpaceAnswer
 }
 
 fn space_refused(r: Refusal) -> SpaceAnswer
-    ensures { result ≡ space_told (SpaceRefused r) }
+    ensures { result ≡ space_told (Err r) }
 {
     SpaceAnswer {
         number: numbers::number_of(r),

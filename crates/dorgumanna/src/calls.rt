@@ -1,7 +1,7 @@
 // The calls as C has them: `dorgumanna_c` exports each under its name.
 ghost use Rattle.std.specs.Prelude.{◌≡◌, true, false};
 ghost use Rattle.paper.specs.Calls.{find_of, bound_of, compare_of, read_entry, copy_of, copy_buffer, trailing_of, space_read, need_of, forecast_of, child_of, layout_verdict, fit_verdict, begin_of, begin_page, insert_of, insert_page, set_of, set_page, change_of, change_page, run_of, run_page};
-ghost use Rattle.paper.specs.Answers.{found_says, bound_says, compared_says, entry_says, copied_says, trailing_says, needed_says, forecast_says, child_says, verdict_says, edited_says, filed_says, replaced_says};
+ghost use Rattle.paper.specs.Answers.{found_says, bound_says, compared_says, entry_says, copied_says, trailing_says, needed_says, forecast_says, child_says, layout_says, fit_says, edited_says, filed_says, replaced_says};
 ghost use Rattle.edit.specs.Begins.{given};
 ghost use Rattle.filing.specs.Batches.{batch_of, batch_page};
 ghost use Rattle.dorgumanna.specs.Told.{told, space_told, batch_told};
@@ -19,42 +19,42 @@ use verdict::{fit, layout};
 pub fn dorgumanna_find(page: &[u8], width: u8, key: &[u8]) -> Answer
     ensures { result ≡ told (found_says (find_of width page.now key.now)) }
 {
-    answer::found(find::find(page, width, key))
+    answer::tell(find::find(page, width, key))
 }
 
 // Lower bound: `a` where halving ended, on a fit page the number of keys below the probe.
 pub fn dorgumanna_lower_bound(page: &[u8], width: u8, key: &[u8]) -> Answer
     ensures { result ≡ told (bound_says (bound_of false width page.now key.now)) }
 {
-    answer::bounded(bound::lower_bound(page, width, key))
+    answer::tell(bound::lower_bound(page, width, key))
 }
 
 // Upper bound: `a` where halving ended, on a fit page the number of keys at most the probe.
 pub fn dorgumanna_upper_bound(page: &[u8], width: u8, key: &[u8]) -> Answer
     ensures { result ≡ told (bound_says (bound_of true width page.now key.now)) }
 {
-    answer::bounded(bound::upper_bound(page, width, key))
+    answer::tell(bound::upper_bound(page, width, key))
 }
 
 // Compare: `a` -1, 0 or 1 in two's complement, for a slot below, at or above the probe.
 pub fn dorgumanna_compare(page: &[u8], width: u8, slot: usize, key: &[u8]) -> Answer
     ensures { result ≡ told (compared_says (compare_of width page.now slot key.now)) }
 {
-    answer::compared(compare::compare_slot(page, width, slot, key))
+    answer::tell(compare::compare_slot(page, width, slot, key))
 }
 
 // Child: `a` the highest slot whose key is at most the probe, or -1 in two's complement, `b` the child's value.
 pub fn dorgumanna_child(page: &[u8], key: &[u8]) -> Answer
     ensures { result ≡ told (child_says (child_of page.now key.now)) }
 {
-    answer::child(lookup::child(page, key))
+    answer::tell(lookup::child(page, key))
 }
 
 // Entry: `a` its value.
 pub fn dorgumanna_entry(page: &[u8], width: u8, slot: usize) -> Answer
     ensures { result ≡ told (entry_says (read_entry width page.now slot)) }
 {
-    answer::entry(entry::entry(page, width, slot))
+    answer::tell(entry::entry(page, width, slot))
 }
 
 // Key copy: the key to the front of `out`, `a` its length.
@@ -62,14 +62,14 @@ pub fn dorgumanna_copy_key(page: &[u8], width: u8, slot: usize, out: &mut [u8]) 
     ensures value { result ≡ told (copied_says (copy_of width page.now slot out.old)) }
     ensures out_after { out.new ≡ copy_buffer width page.now slot out.old }
 {
-    answer::copied(key::copy_key(page, width, slot, out))
+    answer::tell(key::copy_key(page, width, slot, out))
 }
 
 // Trailing id: `a` the key's last eight bytes as a number.
 pub fn dorgumanna_trailing_id(page: &[u8], width: u8, slot: usize) -> Answer
     ensures { result ≡ told (trailing_says (trailing_of width page.now slot)) }
 {
-    answer::trailing(trailing::trailing_id(page, width, slot))
+    answer::tell(trailing::trailing_id(page, width, slot))
 }
 
 // The space numbers.
@@ -83,28 +83,28 @@ pub fn dorgumanna_space(page: &[u8]) -> SpaceAnswer
 pub fn dorgumanna_need(width: u8, prefix_len: usize, key: &[u8]) -> Answer
     ensures { result ≡ told (needed_says (need_of width prefix_len key.now)) }
 {
-    answer::needed(space::need(width, prefix_len, key))
+    answer::tell(space::need(width, prefix_len, key))
 }
 
 // Forecast: `a` the common prefix length of two fences, `b` the space that a page begins with.
 pub fn dorgumanna_forecast(lower: &[u8], upper: &[u8]) -> Answer
     ensures { result ≡ told (forecast_says (forecast_of lower.now upper.now)) }
 {
-    answer::forecast(space::forecast(lower, upper))
+    answer::tell(space::forecast(lower, upper))
 }
 
 // Layout verdict: `a` 1 yes, 0 no.
 pub fn dorgumanna_layout(page: &[u8], width: u8) -> Answer
-    ensures { result ≡ told (verdict_says (layout_verdict width page.now)) }
+    ensures { result ≡ told (layout_says (layout_verdict width page.now)) }
 {
-    answer::verdict(layout::layout_verdict(page, width))
+    answer::tell(layout::layout_verdict(page, width))
 }
 
 // Fit verdict: `a` 0, or the first rule broken.
 pub fn dorgumanna_fit(page: &[u8], width: u8) -> Answer
-    ensures { result ≡ told (verdict_says (fit_verdict width page.now)) }
+    ensures { result ≡ told (fit_says (fit_verdict width page.now)) }
 {
-    answer::verdict(fit::fit_verdict(page, width))
+    answer::tell(fit::fit_verdict(page, width))
 }
 
 // Begin: makes of the page one without entries between two fences.
@@ -120,7 +120,7 @@ pub fn dorgumanna_begin(
     ensures value { result ≡ told (edited_says (begin_of page.old (given height timestamp lower.now lower_value upper.now flag))) }
     ensures page_after { page.new ≡ begin_page page.old (given height timestamp lower.now lower_value upper.now flag) }
 {
-    answer::edited(begin::begin(page, height, timestamp, lower, lower_value, upper, flag))
+    answer::tell(begin::begin(page, height, timestamp, lower, lower_value, upper, flag))
 }
 
 // Insert: files the key with its value, `a` its slot number.
@@ -128,7 +128,7 @@ pub fn dorgumanna_insert(page: &mut [u8], width: u8, key: &[u8], value: u64) -> 
     ensures value { result ≡ told (filed_says (insert_of width page.old key.now value)) }
     ensures page_after { page.new ≡ insert_page width page.old key.now value }
 {
-    answer::filed(insert::insert(page, width, key, value))
+    answer::tell(insert::insert(page, width, key, value))
 }
 
 // Set value: replaces the expected value of a key by another, `a` the old one.
@@ -142,7 +142,7 @@ pub fn dorgumanna_set_value(
     ensures value { result ≡ told (replaced_says (set_of width page.old key.now expected new)) }
     ensures page_after { page.new ≡ set_page width page.old key.now expected new }
 {
-    answer::replaced(set::set_value(page, width, key, expected, new))
+    answer::tell(set::set_value(page, width, key, expected, new))
 }
 
 // Change key: gives a slot another key.
@@ -150,7 +150,7 @@ pub fn dorgumanna_change_key(page: &mut [u8], width: u8, slot: usize, key: &[u8]
     ensures value { result ≡ told (edited_says (change_of width page.old slot key.now)) }
     ensures page_after { page.new ≡ change_page width page.old slot key.now }
 {
-    answer::edited(change::change_key(page, width, slot, key))
+    answer::tell(change::change_key(page, width, slot, key))
 }
 
 // Run copy: `n` entries of the source from `first` on, behind all entries of the page.
@@ -164,7 +164,7 @@ pub fn dorgumanna_copy_run(
     ensures value { result ≡ told (edited_says (run_of width page.old source.now first n)) }
     ensures page_after { page.new ≡ run_page width page.old source.now first n }
 {
-    answer::edited(copy::copy_run(page, source, width, first, n))
+    answer::tell(copy::copy_run(page, source, width, first, n))
 }
 
 // Batch: files all records of a buffer, each a u32 key length, the key and a u64 value, or none; `a` their number. A refusal has

@@ -5,6 +5,7 @@ ghost use Rattle.paper.specs.Refusals.{number_of, carried_by};
 use paper::refusal::Refusal;
 
 // The number of a refusal.
+#[tactic(auto, unfolding(paper::specs::Refusals::number_of))]
 pub fn number_of(r: Refusal) -> u8
     ensures { result ≡ number_of r }
 {
@@ -31,27 +32,13 @@ pub fn number_of(r: Refusal) -> u8
 }
 
 // What a refusal carries: the U number of a 5, the stored value of an 18, else 0.
+#[tactic(auto, using(crate::proofs::Carried::carries_none), unfolding(paper::specs::Refusals::carried_by))]
 pub fn carried_by(r: Refusal) -> u64
     ensures { result ≡ carried_by r }
 {
     match r {
-        Refusal::PageLength => 0,
-        Refusal::Width => 0,
-        Refusal::KeyLength => 0,
-        Refusal::HeaderRules => 0,
         Refusal::NotFit(u) => u as u64,
-        Refusal::FenceOrder => 0,
-        Refusal::ValueRange => 0,
-        Refusal::Prefix => 0,
-        Refusal::OutsideFences => 0,
-        Refusal::SlotNumber => 0,
-        Refusal::Present => 0,
-        Refusal::Neighbours => 0,
-        Refusal::NoRoom => 0,
-        Refusal::Payload => 0,
-        Refusal::BufferLength => 0,
-        Refusal::ShortKey => 0,
-        Refusal::NotFound => 0,
         Refusal::OtherValue(v) => v,
+        _ => 0,
     }
 }

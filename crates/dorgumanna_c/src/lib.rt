@@ -3,7 +3,7 @@
 
 ghost use Rattle.std.specs.Prelude.{◌≡◌, true, false};
 ghost use Rattle.paper.specs.Calls.{find_of, bound_of, compare_of, read_entry, copy_of, copy_buffer, trailing_of, space_read, need_of, forecast_of, child_of, layout_verdict, fit_verdict, begin_of, begin_page, insert_of, insert_page, set_of, set_page, change_of, change_page, run_of, run_page};
-ghost use Rattle.paper.specs.Answers.{found_says, bound_says, compared_says, entry_says, copied_says, trailing_says, needed_says, forecast_says, child_says, verdict_says, edited_says, filed_says, replaced_says};
+ghost use Rattle.paper.specs.Answers.{found_says, bound_says, compared_says, entry_says, copied_says, trailing_says, needed_says, forecast_says, child_says, layout_says, fit_says, edited_says, filed_says, replaced_says};
 ghost use Rattle.edit.specs.Begins.{given};
 ghost use Rattle.filing.specs.Batches.{batch_of, batch_page};
 ghost use Rattle.dorgumanna.specs.Told.{told, space_told, batch_told};
@@ -103,7 +103,7 @@ pub extern "C" fn dorgumanna_forecast(lower: &[u8], upper: &[u8]) -> Answer
 // Layout verdict: `a` 1 yes, 0 no.
 #[unsafe(no_mangle)]
 pub extern "C" fn dorgumanna_layout(page: &[u8], width: u8) -> Answer
-    ensures { result ≡ told (verdict_says (layout_verdict width page.now)) }
+    ensures { result ≡ told (layout_says (layout_verdict width page.now)) }
 {
     calls::dorgumanna_layout(page, width)
 }
@@ -111,7 +111,7 @@ pub extern "C" fn dorgumanna_layout(page: &[u8], width: u8) -> Answer
 // Fit verdict: `a` 0, or the first rule broken.
 #[unsafe(no_mangle)]
 pub extern "C" fn dorgumanna_fit(page: &[u8], width: u8) -> Answer
-    ensures { result ≡ told (verdict_says (fit_verdict width page.now)) }
+    ensures { result ≡ told (fit_says (fit_verdict width page.now)) }
 {
     calls::dorgumanna_fit(page, width)
 }

@@ -9,7 +9,6 @@ use lib.ListN.{length, take, drop, length-drop}
 use lib.Seq.{length-take-le}
 use Rattle.octets.specs.Bytes.{put}
 use Rattle.keys.specs.Keys.{order, common}
-use Rattle.keys.specs.declared.order.Order.{Order}
 use Rattle.paper.specs.Lists.{less}
 use Rattle.paper.specs.Space.{fence_bytes, begin_bytes}
 use Rattle.paper.specs.Edits.{put_all, Begin, begin_prefix, begin_lower, begin_upper, upper_start, fences_placed, begin_fields, inlined, begun}
@@ -17,12 +16,12 @@ use Rattle.paper.specs.Refusals.{judge}
 use Rattle.paper.specs.Calls.{begin_checks, begin_of, begin_page}
 use Rattle.paper.specs.declared.page.Header.{Header}
 use Rattle.paper.specs.declared.refusal.Refusal.TheVariants.{PageLength, KeyLength, FenceOrder, NoRoom}
-use Rattle.paper.specs.declared.answers.Edited.TheVariants.{Done, Refused as Edited-as-Refused}
 use Rattle.paper.proofs.Beginning.{length-beginPrefix, begin-bytes}
 use Rattle.node.proofs.Spaces.{begin-bytes as counted-bytes}
 use Rattle.edit.specs.Begins.{ordered, runs_placed, fences_of, flag_number, begin_header, slot_fields, front_fields, tail_fields, header_fields}
 use Rattle.edit.specs.declared.fences.Fences.{Fences}
 use Rattle.edit.proofs.BegunRuns.{rest_is}
+use Rattle.std.specs.Prelude.{Ok, Err}
 
 -- ---- the order of the fences
 module _ (lower upper : List ℕ) where
@@ -82,22 +81,22 @@ end-most f prefix lower upper e = rw e (omega arith)
 
 -- ---- the call's ways out
 module _ (p : List ℕ) (b : Begin) where
-  pub begin-size : (length p ≡ 16384 → ⊥) → (Edited-as-Refused PageLength ≡ begin_of p b) × (p ≡ begin_page p b)
+  pub begin-size : (length p ≡ 16384 → ⊥) → (Err PageLength ≡ begin_of p b) × (p ≡ begin_page p b)
   unfolding begin_of begin_page begin_checks judge
   begin-size s = rw (ne_eqb (length p) 16384 s) (refl, refl)
 
   module _ (s : length p ≡ 16384) where
-    pub begin-lower : 65535 < length b.lower → (Edited-as-Refused KeyLength ≡ begin_of p b) × (p ≡ begin_page p b)
+    pub begin-lower : 65535 < length b.lower → (Err KeyLength ≡ begin_of p b) × (p ≡ begin_page p b)
     unfolding begin_of begin_page begin_checks judge
     begin-lower l = rw (eq-eqb (length p) 16384 s, lt-leb (length b.lower) 65535 l) (refl, refl)
 
     module _ (l : length b.lower ≤ 65535) where
-      pub begin-upper : 65535 < length b.upper → (Edited-as-Refused KeyLength ≡ begin_of p b) × (p ≡ begin_page p b)
+      pub begin-upper : 65535 < length b.upper → (Err KeyLength ≡ begin_of p b) × (p ≡ begin_page p b)
       unfolding begin_of begin_page begin_checks judge
       begin-upper u = rw (eq-eqb (length p) 16384 s, le-leb (length b.lower) 65535 l, lt-leb (length b.upper) 65535 u) (refl, refl)
 
       module _ (u : length b.upper ≤ 65535) where
-        pub begin-order : ordered b.lower b.upper ≡ false → (Edited-as-Refused FenceOrder ≡ begin_of p b) × (p ≡ begin_page p b)
+        pub begin-order : ordered b.lower b.upper ≡ false → (Err FenceOrder ≡ begin_of p b) × (p ≡ begin_page p b)
         unfolding begin_of begin_page begin_checks judge ordered
         begin-order o =
             rw (eq-eqb (length p) 16384 s, le-leb (length b.lower) 65535 l, le-leb (length b.upper) 65535 u, o) (refl, refl)
@@ -108,12 +107,12 @@ module _ (p : List ℕ) (b : Begin) where
           counted : x ≡ begin_bytes b.lower b.upper
           counted = c ∙ counted-bytes b.lower b.upper n e
 
-          pub begin-full : 16256 < x → (Edited-as-Refused NoRoom ≡ begin_of p b) × (p ≡ begin_page p b)
+          pub begin-full : 16256 < x → (Err NoRoom ≡ begin_of p b) × (p ≡ begin_page p b)
           unfolding begin_of begin_page begin_checks judge ordered
           begin-full r =
               rw (eq-eqb (length p) 16384 s, le-leb (length b.lower) 65535 l, le-leb (length b.upper) 65535 u, o, ← counted, lt-leb x 16256 r) (refl, refl)
 
-          pub begin-done : x ≤ 16256 → (q : List ℕ) → q ≡ begun p b → (Done ≡ begin_of p b) × (q ≡ begin_page p b)
+          pub begin-done : x ≤ 16256 → (q : List ℕ) → q ≡ begun p b → (Ok tt ≡ begin_of p b) × (q ≡ begin_page p b)
           unfolding begin_of begin_page begin_checks judge ordered
           begin-done r q k =
               rw (eq-eqb (length p) 16384 s, le-leb (length b.lower) 65535 l, le-leb (length b.upper) 65535 u, o, ← counted, le-leb x 16256 r) (refl, k)

@@ -21,12 +21,10 @@ use Rattle.paper.specs.declared.page.Slot.{Slot}
 use Rattle.paper.specs.declared.page.Header.{Header}
 use Rattle.paper.specs.declared.refusal.Refusal.{Refusal}
 use Rattle.paper.specs.declared.refusal.Refusal.TheVariants.{Prefix, OutsideFences, SlotNumber, Neighbours, NoRoom}
-use Rattle.paper.specs.declared.answers.Edited.TheVariants.{Done, Refused as Edited-as-Refused}
 use Rattle.paper.proofs.Lists.{both_parts}
 use Rattle.paper.proofs.Fit.{Fit, Rules, fit}
 use Rattle.paper.proofs.Filing.{frame-rules}
 use Rattle.paper.proofs.Holding.{Hold, judge_hold, done_holds, refused-judge, judge-append}
-use Rattle.node.specs.declared.admit.Admitted.TheVariants.{Is as Admitted-as-Is, Refused as Admitted-as-Refused}
 use Rattle.node.proofs.Entries.{width_whole}
 use Rattle.search.specs.Probe.{class_by, class_number}
 use Rattle.search.specs.Fence.{inside_by}
@@ -39,6 +37,7 @@ use Rattle.write.specs.Room.{Seat}
 use Rattle.write.proofs.Givens.{seat-given}
 use Rattle.edit.specs.Changed.{Lying, between_by, change_tests, change_with, page_with}
 use Rattle.edit.proofs.Neighbouring.{all-lying, between_is}
+use Rattle.std.specs.Prelude.{Ok, Err}
 
 -- ---- a page that is fit, with its header
 module _ (w : ℕ) (p : List ℕ) (size : length p ≡ 16384) (fitted : fit_of w p ≡ 0) where
@@ -80,7 +79,7 @@ module _ (w : ℕ) (p k : List ℕ) (i : ℕ) (h : Header) (e : h ≡ header_of 
   unfolding header_of
   count-is = rw e
 
-  pub change-lacks : (c ≡ 1 → ⊥) → change_with w p i k ≡ Edited-as-Refused Prefix
+  pub change-lacks : (c ≡ 1 → ⊥) → change_with w p i k ≡ Err Prefix
   unfolding change_with judge
   change-lacks g = rw (lacks-prefix p k h e c f g)
 
@@ -91,12 +90,12 @@ module _ (w : ℕ) (p k : List ℕ) (i : ℕ) (h : Header) (e : h ≡ header_of 
     lies : inside (frame_of p) k ≡ t
     lies = sym (g ∙ inside_is p k has (header_of p) x refl d)
 
-    pub change-outside : t ≡ false → change_with w p i k ≡ Edited-as-Refused OutsideFences
+    pub change-outside : t ≡ false → change_with w p i k ≡ Err OutsideFences
     unfolding change_with judge
     change-outside l = rw (has, lies, l)
 
     module _ (l : t ≡ true) where
-      pub change-absent : h.count ≤ i → change_with w p i k ≡ Edited-as-Refused SlotNumber
+      pub change-absent : h.count ≤ i → change_with w p i k ≡ Err SlotNumber
       unfolding change_with judge
       change-absent m = rw (has, lies, l, le-ltb i (numbers_of p).count (omega (arith, count-is)))
 
@@ -107,7 +106,7 @@ module _ (w : ℕ) (p k : List ℕ) (i : ℕ) (h : Header) (e : h ≡ header_of 
         amid : between (keys (listing w p)) i k ≡ u
         amid = between_is w p size (fits w p size fitted) b k (lies ∙ l) i below ∙ sym (rw (← d, ← count-is) m)
 
-        pub change-apart : u ≡ false → change_with w p i k ≡ Edited-as-Refused Neighbours
+        pub change-apart : u ≡ false → change_with w p i k ≡ Err Neighbours
         unfolding change_with judge
         change-apart q = rw (has, lies, l, lt-ltb i (numbers_of p).count below, amid, q)
 
@@ -115,31 +114,25 @@ module _ (w : ℕ) (p k : List ℕ) (i : ℕ) (h : Header) (e : h ≡ header_of 
           room : room_for_key w p i (probe_suffix (frame_of p) k) ≡ v
           room = sym (r ∙ ap (room_for_key w p i) d)
 
-          pub change-full : v ≡ false → change_with w p i k ≡ Edited-as-Refused NoRoom
+          pub change-full : v ≡ false → change_with w p i k ≡ Err NoRoom
           unfolding change_with judge
           change-full n = rw (has, lies, l, lt-ltb i (numbers_of p).count below, amid, q, room, n)
 
-          pub change-free : v ≡ true → change_with w p i k ≡ Done
+          pub change-free : v ≡ true → change_with w p i k ≡ Ok tt
           unfolding change_with judge
           change-free n = rw (has, lies, l, lt-ltb i (numbers_of p).count below, amid, q, room, n)
 
 -- ---- the call's half after the fit test
-refused_is : (x q : Refusal) → Edited-as-Refused x ≡ Edited-as-Refused q → x ≡ q
-refused_is x q e = cc
-
-done_not : (q : Refusal) → Done ≡ Edited-as-Refused q → ⊥
-done_not q e = let z : ◌≡◌ {A = ℕ} 0 1 = cc in omega arith
-
 module _ (w : ℕ) (p : List ℕ) (i : ℕ) (k : List ℕ) where
   abbrev new : List ℕ
   new = key_changed w p i (probe_suffix (frame_of p) k)
 
-  pub change-kept : (q : Refusal) → change_with w p i k ≡ Edited-as-Refused q → p ≡ page_with w p i k
+  pub change-kept : (q : Refusal) → change_with w p i k ≡ Err q → p ≡ page_with w p i k
   unfolding change_with page_with
-  change-kept q e = sym (refused-judge (change_tests w p i k) Done Edited-as-Refused q (λ x j. refused_is x q j) (done_not q) e new (λ r. p))
+  change-kept q e = sym (refused-judge (change_tests w p i k) tt q e new (λ r. p))
 
   -- x is the key's suffix
-  module _ (e : change_with w p i k ≡ Done) (x : List ℕ) (d : x ≡ probe_suffix (frame_of p) k) where
+  module _ (e : change_with w p i k ≡ Ok tt) (x : List ℕ) (d : x ≡ probe_suffix (frame_of p) k) where
     holds : Hold (change_tests w p i k)
     unfolding change_with
     holds = done_holds (change_tests w p i k) e
@@ -156,7 +149,7 @@ module _ (w : ℕ) (p : List ℕ) (i : ℕ) (k : List ℕ) where
         (seat-given w p size (fits w p size fitted) i (probe_suffix (frame_of p) k) (omega (arith, width_whole w known)) (rw (length-drop (frame_of p).prefix_len k) (omega arith))
         (ltb-true i (numbers_of p).count c.0) r.0)
 
-    pub change-written : (q : List ℕ) → q ≡ key_changed w p i x → (Done ≡ change_with w p i k) × (q ≡ page_with w p i k)
+    pub change-written : (q : List ℕ) → q ≡ key_changed w p i x → (Ok tt ≡ change_with w p i k) × (q ≡ page_with w p i k)
     unfolding page_with
     change-written q f = (sym e, f ∙ ap (key_changed w p i) d ∙ sym (judge_hold (change_tests w p i k) new (λ r. p) holds))
 
@@ -165,12 +158,12 @@ module _ (w : ℕ) (p : List ℕ) (i : ℕ) (k : List ℕ) where
   unfolding change_checks
   split a r = judge-append (fit_checks w p (length k)) (change_tests w p i k) a r
 
-  pub change-refused : (q : Refusal) → fit_admit_of w p (length k) ≡ Admitted-as-Refused q → (Edited-as-Refused q ≡ change_of w p i k) × (p ≡ change_page w p i k)
+  pub change-refused : (q : Refusal) → fit_admit_of w p (length k) ≡ Err q → (Err q ≡ change_of w p i k) × (p ≡ change_page w p i k)
   unfolding change_of change_page
   change-refused q e =
-      (sym (split Done Edited-as-Refused ∙ unfit-judge w p (length k) q e _ Edited-as-Refused), sym (split new (λ r. p) ∙ unfit-judge w p (length k) q e _ (λ r. p)))
+      (sym (split (Ok tt) Err ∙ unfit-judge w p (length k) q e _ Err), sym (split new (λ r. p) ∙ unfit-judge w p (length k) q e _ (λ r. p)))
 
-  pub change-fitted : (h : Header) → fit_admit_of w p (length k) ≡ Admitted-as-Is h → (change_with w p i k ≡ change_of w p i k) × (page_with w p i k ≡ change_page w p i k)
+  pub change-fitted : (h : Header) → fit_admit_of w p (length k) ≡ Ok h → (change_with w p i k ≡ change_of w p i k) × (page_with w p i k ≡ change_page w p i k)
   unfolding change_of change_page change_with page_with
   change-fitted h e =
-      (sym (split Done Edited-as-Refused ∙ fitted-judge w p (length k) h e _ Edited-as-Refused), sym (split new (λ r. p) ∙ fitted-judge w p (length k) h e _ (λ r. p)))
+      (sym (split (Ok tt) Err ∙ fitted-judge w p (length k) h e _ Err), sym (split new (λ r. p) ∙ fitted-judge w p (length k) h e _ (λ r. p)))

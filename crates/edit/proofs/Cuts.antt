@@ -13,7 +13,6 @@ use lib.Seq.{take_all, take-append-le, take-append-add, drop-append-le, drop-app
 use Rattle.octets.specs.Bytes.{big_bytes}
 use Rattle.keys.specs.Choice.{both}
 use Rattle.keys.specs.Keys.{begins, by_number, order, common, same_list}
-use Rattle.keys.specs.declared.order.Order.{Order}
 use Rattle.keys.proofs.Numbers.{alike?, by_number_eq, by_number_ne}
 use Rattle.keys.proofs.Prefixes.{common_eq, common_ne, common-le, begins-common}
 use Rattle.paper.specs.Page.{prefix_of, suffix_of, frame_of, header_of}
@@ -24,11 +23,20 @@ use Rattle.paper.specs.Calls.{has_prefix}
 use Rattle.paper.specs.declared.page.Slot.{Slot}
 use Rattle.paper.specs.declared.page.Header.{Header}
 use Rattle.paper.specs.declared.refusal.Refusal.TheVariants.{Prefix, OutsideFences}
-use Rattle.paper.specs.declared.answers.Edited.TheVariants.{Done, Refused as Edited-as-Refused}
 use Rattle.node.proofs.Spelling.{length-prefix_of, suffix-short}
 use Rattle.search.specs.Fence.{inside_by}
 use Rattle.search.proofs.Fences.{inside_is}
 use Rattle.edit.specs.RunTests.{Fenced, Meeting, standing}
+use Rattle.std.specs.Prelude.{Ok, Err}
+use Rattle.std.specs.declared.cmp.Ordering.{Ordering}
+use Rattle.std.specs.Ordering.{is_lt, is_gt, ordering_reverse}
+use Rattle.std.specs.declared.cmp.Ordering.TheVariants.{Less, Equal, Greater}
+
+-- ---- an order seen from the other key
+pub lt_reverse : (o : Ordering) → is_gt o ≡ is_lt (ordering_reverse o)
+lt_reverse Less = refl
+lt_reverse Equal = refl
+lt_reverse Greater = refl
 
 -- ---- the order of two pieces a and b and a key x
 -- the first piece decides where it is not the front of x
@@ -50,7 +58,7 @@ order-rest (y ∷ a) b (z ∷ x) h =
     ⊎_elim (λ e. by_number_eq y z (order (a ++ b) x) e ∙ next (omega (arith, common_eq y z a x e))) (λ e. absurd (omega (arith, common_ne y z a x e))) (alike? y z)
 
 -- n is what the first piece and x share, o what was found
-module _ (a b x : List ℕ) (n : ℕ) (e : n ≡ common a x) (o : Order) where
+module _ (a b x : List ℕ) (n : ℕ) (e : n ≡ common a x) (o : Ordering) where
   pub two-lead : n < length a → o ≡ order a x → o ≡ order (a ++ b) x
   two-lead h f = f ∙ sym (order_lead a b x (omega (arith, e)))
 
@@ -153,7 +161,7 @@ module _ (p : List ℕ) (h : Header) (F : Fenced p h) where
         ∙ same_two (take c P) (take (h.prefix_len - c) S) (take c whole) (drop c whole) n
         ∙ rw (M.alikeness, ← e, wanted-length, wanted-is))
 
-    pub stands-unlike : t ≡ false → standing p (P ++ S) ≡ Edited-as-Refused Prefix
+    pub stands-unlike : t ≡ false → standing p (P ++ S) ≡ Err Prefix
     unfolding standing judge
     stands-unlike f = rw (has-two, f)
 
@@ -162,7 +170,7 @@ module _ (p : List ℕ) (h : Header) (F : Fenced p h) where
       has-is : has_prefix (frame_of p) (P ++ S) ≡ b
       has-is = has-two ∙ rw (f, g)
 
-      pub stands-lacks : b ≡ false → standing p (P ++ S) ≡ Edited-as-Refused Prefix
+      pub stands-lacks : b ≡ false → standing p (P ++ S) ≡ Err Prefix
       unfolding standing judge
       stands-lacks k = rw (has-is, k)
 
@@ -183,10 +191,10 @@ module _ (p : List ℕ) (h : Header) (F : Fenced p h) where
           inside-two : inside (frame_of p) (P ++ S) ≡ i
           inside-two = sym (m ∙ inside_is p (P ++ S) (has-is ∙ k) h rest F.header rest_is)
 
-          pub stands-outside : i ≡ false → standing p (P ++ S) ≡ Edited-as-Refused OutsideFences
+          pub stands-outside : i ≡ false → standing p (P ++ S) ≡ Err OutsideFences
           unfolding standing judge
           stands-outside n = rw (has-is, k, inside-two, n)
 
-          pub stands-done : i ≡ true → standing p (P ++ S) ≡ Done
+          pub stands-done : i ≡ true → standing p (P ++ S) ≡ Ok tt
           unfolding standing judge
           stands-done n = rw (has-is, k, inside-two, n)

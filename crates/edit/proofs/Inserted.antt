@@ -22,13 +22,9 @@ use Rattle.paper.specs.Calls.{fits_width, has_prefix, insert_checks, insert_of, 
 use Rattle.paper.specs.declared.page.Header.{Header}
 use Rattle.paper.specs.declared.refusal.Refusal.{Refusal}
 use Rattle.paper.specs.declared.refusal.Refusal.TheVariants.{ValueRange, Prefix, OutsideFences, Present, NoRoom}
-use Rattle.paper.specs.declared.answers.Filed.TheVariants.{At as Filed-as-At, Refused as Filed-as-Refused}
-use Rattle.paper.specs.declared.answers.Found.{Found}
-use Rattle.paper.specs.declared.answers.Found.TheVariants.{Equal, Smaller}
 use Rattle.paper.proofs.Lists.{both_parts}
-use Rattle.paper.proofs.Holding.{Hold, judge_hold, hold_judge, refused-judge}
+use Rattle.paper.proofs.Holding.{Hold, judge_hold, answer_holds, refused-judge}
 use Rattle.paper.proofs.Searching.{r-le}
-use Rattle.node.specs.declared.admit.Admitted.TheVariants.{Is as Admitted-as-Is, Refused as Admitted-as-Refused}
 use Rattle.verdict.specs.Fits.{fit_admit_of}
 use Rattle.search.specs.Probe.{class_by, class_number}
 use Rattle.search.specs.Fence.{inside_by}
@@ -41,6 +37,9 @@ use Rattle.write.proofs.Givens.{room-given}
 use Rattle.edit.specs.Tested.{Tested}
 use Rattle.edit.specs.Inserts.{insert_tests, insert_with, inserted_with, room_with, place_by}
 use Rattle.edit.proofs.Testing.{prefix-held, prefix-not, tested-fit, tested-rules, judge-refused, judge-fitted}
+use Rattle.std.specs.Prelude.{Result, Ok, Err}
+use Rattle.paper.specs.declared.answers.Found.{Found}
+use Rattle.paper.specs.declared.answers.Found.TheVariants.{Equal, Smaller}
 
 -- ---- the room; b is what was counted of the suffix
 pub room_is : (w start end n b : ℕ) → b ≡ body_bytes 4 n → leb (8 + w + b) (end - start) ≡ room_with w start end n
@@ -56,12 +55,12 @@ room_asked w p k T start s end e x d =
 
 -- ---- the slot; t says whether the value fits, n is the prefix's length and c the class as a number, x the key's suffix, u whether it lies inside
 module _ (w : ℕ) (p k : List ℕ) (v : ℕ) (T : Tested w p (length k)) (t : Bool) (a : t ≡ fits_width w v) where
-  pub place-range : t ≡ false → insert_with w p k v ≡ Filed-as-Refused ValueRange
+  pub place-range : t ≡ false → insert_with w p k v ≡ Err ValueRange
   unfolding insert_with judge
   place-range g = rw (← a, g)
 
   module _ (fits : t ≡ true) (n : ℕ) (r : n ≡ le 2 p 46) (c : ℕ) (f : c ≡ class_number (class_by p n k)) where
-    pub place-lacks : (c ≡ 1 → ⊥) → insert_with w p k v ≡ Filed-as-Refused Prefix
+    pub place-lacks : (c ≡ 1 → ⊥) → insert_with w p k v ≡ Err Prefix
     unfolding insert_with judge
     place-lacks g = rw (← a, fits, prefix-not p k n r c f g)
 
@@ -72,7 +71,7 @@ module _ (w : ℕ) (p k : List ℕ) (v : ℕ) (T : Tested w p (length k)) (t : B
       lies : inside (frame_of p) k ≡ u
       lies = sym (g ∙ inside_is p k has (header_of p) x refl d)
 
-      pub place-outside : u ≡ false → insert_with w p k v ≡ Filed-as-Refused OutsideFences
+      pub place-outside : u ≡ false → insert_with w p k v ≡ Err OutsideFences
       unfolding insert_with judge
       place-outside l = rw (← a, fits, has, lies, l)
 
@@ -82,41 +81,34 @@ module _ (w : ℕ) (p k : List ℕ) (v : ℕ) (T : Tested w p (length k)) (t : B
         unfolding room_with header_of
         room_of = sym (o ∙ rw (start-read p start s, end_read p end e, d))
 
-        by-scan : (s : Bool) (r : ℕ) → pick s (pick room (Filed-as-At r) (Filed-as-Refused NoRoom)) (Filed-as-Refused Present) ≡ place_by room (pick s (Smaller r) (Equal r))
+        by-scan : (s : Bool) (r : ℕ) → pick s (pick room (Ok r) (Err NoRoom)) (Err Present) ≡ place_by room (pick s (Ok (Smaller r)) (Ok (Equal r)))
         unfolding place_by
         by-scan true r = refl
         by-scan false r = refl
 
-        pub place_found : (y : Found) → y ≡ find_in w p (header_of p) x → insert_with w p k v ≡ place_by room y
+        pub place_found : (y : Result Found Refusal) → y ≡ find_in w p (header_of p) x → insert_with w p k v ≡ place_by room y
         unfolding insert_with judge find_scan
         place_found y m =
             let found = found-scan w p T.size b (tested-fit w p (length k) T) k hk has x d in
             rw (m, found, ← a, fits, has, lies, inner, room_of) (by-scan (all (differ k) (keys (listing w p))) (scan false k (listing w p)))
 
 -- ---- the page
-at_not : (i : ℕ) (q : Refusal) → Filed-as-At i ≡ Filed-as-Refused q → ⊥
-at_not i q e = let z : ◌≡◌ {A = ℕ} 0 1 = cc in omega arith
-
-refused_is : (x q : Refusal) → Filed-as-Refused x ≡ Filed-as-Refused q → x ≡ q
-refused_is x q e = cc
-
 module _ (w : ℕ) (p k : List ℕ) (v : ℕ) where
-  pub insert-kept : (q : Refusal) → insert_with w p k v ≡ Filed-as-Refused q → p ≡ inserted_with w p k v
+  pub insert-kept : (q : Refusal) → insert_with w p k v ≡ Err q → p ≡ inserted_with w p k v
   unfolding insert_with inserted_with
   insert-kept q e =
       sym
-      (refused-judge (insert_tests w p k v) (Filed-as-At (scan false k (listing w p))) Filed-as-Refused q (λ x m. refused_is x q m) (at_not (scan false k (listing w p)) q) e _
-      (λ r. p))
+      (refused-judge (insert_tests w p k v) (scan false k (listing w p)) q e _ (λ r. p))
 
-  module _ (i : ℕ) (e : insert_with w p k v ≡ Filed-as-At i) where
+  module _ (i : ℕ) (e : insert_with w p k v ≡ Ok i) where
     holds : Hold (insert_tests w p k v)
     unfolding insert_with
-    holds = hold_judge (insert_tests w p k v) (Filed-as-At (scan false k (listing w p))) (Filed-as-At i) Filed-as-Refused (λ q m. at_not i q (sym m)) e
+    holds = answer_holds (insert_tests w p k v) (scan false k (listing w p)) i e
 
     slot_is : i ≡ scan false k (listing w p)
     slot_is =
-        let a : insert_with w p k v ≡ Filed-as-At (scan false k (listing w p)) =
-        unfold insert_with in judge_hold (insert_tests w p k v) (Filed-as-At (scan false k (listing w p))) Filed-as-Refused holds in
+        let a : insert_with w p k v ≡ Ok (scan false k (listing w p)) =
+        unfold insert_with in judge_hold (insert_tests w p k v) (Ok (scan false k (listing w p))) Err holds in
         cc
 
     enough : need w (length (probe_suffix (frame_of p) k)) ≤ free (numbers_of p)
@@ -143,12 +135,12 @@ module _ (w : ℕ) (p k : List ℕ) (v : ℕ) where
           (sym (judge_hold (insert_tests w p k v) (inserted w p (scan false k (listing w p)) (probe_suffix (frame_of p) k) v) (λ r. p) holds))
 
   -- ---- the whole call
-  pub insert-refused : (q : Refusal) → fit_admit_of w p (length k) ≡ Admitted-as-Refused q → (Filed-as-Refused q ≡ insert_of w p k v) × (p ≡ insert_page w p k v)
+  pub insert-refused : (q : Refusal) → fit_admit_of w p (length k) ≡ Err q → (Err q ≡ insert_of w p k v) × (p ≡ insert_page w p k v)
   unfolding insert_of insert_page insert_checks
   insert-refused q e =
-      (sym (judge-refused w p (length k) (insert_tests w p k v) _ Filed-as-Refused q e), sym (judge-refused w p (length k) (insert_tests w p k v) _ (λ r. p) q e))
+      (sym (judge-refused w p (length k) (insert_tests w p k v) _ Err q e), sym (judge-refused w p (length k) (insert_tests w p k v) _ (λ r. p) q e))
 
-  pub insert-fitted : (h : Header) → fit_admit_of w p (length k) ≡ Admitted-as-Is h → (insert_with w p k v ≡ insert_of w p k v) × (inserted_with w p k v ≡ insert_page w p k v)
+  pub insert-fitted : (h : Header) → fit_admit_of w p (length k) ≡ Ok h → (insert_with w p k v ≡ insert_of w p k v) × (inserted_with w p k v ≡ insert_page w p k v)
   unfolding insert_of insert_page insert_checks insert_with inserted_with
   insert-fitted h e =
-      (sym (judge-fitted w p (length k) (insert_tests w p k v) _ Filed-as-Refused h e), sym (judge-fitted w p (length k) (insert_tests w p k v) _ (λ r. p) h e))
+      (sym (judge-fitted w p (length k) (insert_tests w p k v) _ Err h e), sym (judge-fitted w p (length k) (insert_tests w p k v) _ (λ r. p) h e))

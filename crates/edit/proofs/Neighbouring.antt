@@ -11,7 +11,7 @@ use lib.ListN.{length, take, drop, get_or}
 use Rattle.octets.specs.Bytes.{IsBytes, part, big_bytes}
 use Rattle.keys.specs.Choice.{pick}
 use Rattle.keys.proofs.Orders.{order-append}
-use Rattle.paper.specs.Lists.{is_below, less}
+use Rattle.paper.specs.Lists.{less}
 use Rattle.paper.specs.Page.{slot_at, place, slot_of, suffix_of, frame_of, numbers_of, view_of}
 use Rattle.paper.specs.Verdicts.{inside}
 use Rattle.paper.specs.Listing.{listing, keys}
@@ -24,6 +24,7 @@ use Rattle.paper.proofs.Filing.{whole-key}
 use Rattle.paper.proofs.Searching.{key-at, length-keys}
 use Rattle.node.proofs.Spelling.{suffix-short}
 use Rattle.edit.specs.Changed.{Lying, above_previous, below_next, between_by}
+use Rattle.std.specs.Ordering.{is_lt}
 
 -- ---- a slot; l is its suffix as code found it, r whether it is below x
 module _ (p x l : List ℕ) (s : Slot) (r : Bool) (e : r ≡ less l x) where
@@ -85,11 +86,11 @@ module _ (w : ℕ) (p : List ℕ) (size : length p ≡ 16384) (F : Fit w (view_o
 
     slot-key : (j : ℕ) → less (K j) k ≡ less (suffix_of p (slot_of p j)) s
     unfolding less
-    slot-key j = ap (λ (a : List ℕ). less (K j) a) (sym (whole-key w p size F k fenced)) ∙ ap is_below (order-append (frame_of p).prefix (suffix_of p (slot_of p j)) s)
+    slot-key j = ap (λ (a : List ℕ). less (K j) a) (sym (whole-key w p size F k fenced)) ∙ ap is_lt (order-append (frame_of p).prefix (suffix_of p (slot_of p j)) s)
 
     key-slot : (j : ℕ) → less k (K j) ≡ less s (suffix_of p (slot_of p j))
     unfolding less
-    key-slot j = ap (λ (a : List ℕ). less a (K j)) (sym (whole-key w p size F k fenced)) ∙ ap is_below (order-append (frame_of p).prefix s (suffix_of p (slot_of p j)))
+    key-slot j = ap (λ (a : List ℕ). less a (K j)) (sym (whole-key w p size F k fenced)) ∙ ap is_lt (order-append (frame_of p).prefix s (suffix_of p (slot_of p j)))
 
     before-is : pick (eqb i 0) true (less (get_or (keys (listing w p)) (i - 1) []) k) ≡ above_previous p i s
     unfolding above_previous

@@ -21,14 +21,10 @@ use Rattle.paper.specs.declared.page.Slot.{Slot}
 use Rattle.paper.specs.declared.page.Header.{Header}
 use Rattle.paper.specs.declared.refusal.Refusal.{Refusal}
 use Rattle.paper.specs.declared.refusal.Refusal.TheVariants.{ValueRange, Prefix, NotFound, OtherValue}
-use Rattle.paper.specs.declared.answers.Found.{Found}
-use Rattle.paper.specs.declared.answers.Found.TheVariants.{Equal, Smaller, Refused as Found-as-Refused}
-use Rattle.paper.specs.declared.answers.Replaced.TheVariants.{Old, Refused as Replaced-as-Refused}
 use Rattle.paper.proofs.Lists.{both_parts}
-use Rattle.paper.proofs.Holding.{Hold, judge_hold, hold_judge, refused-judge}
+use Rattle.paper.proofs.Holding.{Hold, judge_hold, answer_holds, refused-judge}
 use Rattle.paper.proofs.Searching.{length-keys, rises}
 use Rattle.paper.proofs.Listed.{present_at}
-use Rattle.node.specs.declared.admit.Admitted.TheVariants.{Is as Admitted-as-Is, Refused as Admitted-as-Refused}
 use Rattle.verdict.specs.Fits.{fit_admit_of}
 use Rattle.search.specs.Probe.{class_by, class_number}
 use Rattle.search.specs.Finds.{find_in}
@@ -37,9 +33,11 @@ use Rattle.write.proofs.Givens.{set_given}
 use Rattle.write.proofs.Rekeys.{value_is}
 use Rattle.edit.specs.Tested.{Tested}
 use Rattle.edit.specs.Sets.{set_tests, held_with, held_at, set_with, value_set_with}
-use Rattle.edit.specs.declared.set.Held.TheVariants.{At as Held-as-At, Refused as Held-as-Refused}
 use Rattle.edit.proofs.Widths.{width-most}
 use Rattle.edit.proofs.Testing.{prefix-held, prefix-not, tested-fit, judge-refused, judge-fitted}
+use Rattle.std.specs.Prelude.{Result, Ok, Err}
+use Rattle.paper.specs.declared.answers.Found.{Found}
+use Rattle.paper.specs.declared.answers.Found.TheVariants.{Equal, Smaller}
 
 -- ---- a slot; s is the slot that was read, v its value, read at `at`
 module _ (w : ℕ) (p : List ℕ) (i expected : ℕ) (s : Slot) (at v : ℕ) (l : w ≤ 8) (e : s ≡ slot_at p (place i)) (f : at ≡ value_at s) (g : v ≡ le (min w 8) p at) where
@@ -47,11 +45,11 @@ module _ (w : ℕ) (p : List ℕ) (i expected : ℕ) (s : Slot) (at v : ℕ) (l 
   unfolding slot_of
   stored = sym (value_is w p s at v l f g ∙ ap (λ (o : Slot). le w p (value_at o)) e)
 
-  pub held-other : (v ≡ expected → ⊥) → held_at w p i expected ≡ Held-as-Refused (OtherValue v)
+  pub held-other : (v ≡ expected → ⊥) → held_at w p i expected ≡ Err (OtherValue v)
   unfolding held_at
   held-other d = rw (stored, ne_eqb v expected d)
 
-  pub held_same : v ≡ expected → held_at w p i expected ≡ Held-as-At i
+  pub held_same : v ≡ expected → held_at w p i expected ≡ Ok i
   unfolding held_at
   held_same d = rw (stored, eq-eqb v expected d)
 
@@ -70,61 +68,61 @@ module _ (w : ℕ) (p k : List ℕ) (T : Tested w p (length k)) (b : IsBytes p) 
 
 -- ---- what a search says of a key
 module _ (k : List ℕ) (ks : List (List ℕ)) (r : ℕ) where
-  equal-says : (i : ℕ) → pick (all (differ k) ks) (Smaller r) (Equal r) ≡ Equal i → (i ≡ r) × (all (differ k) ks ≡ false)
+  equal-says : (i : ℕ) → ◌≡◌ {A = Result Found Refusal} (pick (all (differ k) ks) (Ok (Smaller r)) (Ok (Equal r))) (Ok (Equal i)) → (i ≡ r) × (all (differ k) ks ≡ false)
   equal-says i e = go (all (differ k) ks) refl e
     where
-      go : (t : Bool) → all (differ k) ks ≡ t → pick t (Smaller r) (Equal r) ≡ Equal i → (i ≡ r) × (all (differ k) ks ≡ false)
+      go : (t : Bool) → all (differ k) ks ≡ t → ◌≡◌ {A = Result Found Refusal} (pick t (Ok (Smaller r)) (Ok (Equal r))) (Ok (Equal i)) → (i ≡ r) × (all (differ k) ks ≡ false)
       go true a e = absurd (let z : ◌≡◌ {A = ℕ} 0 1 = cc in omega arith)
       go false a e = (cc, a)
 
-  smaller-says : (i : ℕ) → pick (all (differ k) ks) (Smaller r) (Equal r) ≡ Smaller i → all (differ k) ks ≡ true
+  smaller-says : (i : ℕ) → ◌≡◌ {A = Result Found Refusal} (pick (all (differ k) ks) (Ok (Smaller r)) (Ok (Equal r))) (Ok (Smaller i)) → all (differ k) ks ≡ true
   smaller-says i e = go (all (differ k) ks) refl e
     where
-      go : (t : Bool) → all (differ k) ks ≡ t → pick t (Smaller r) (Equal r) ≡ Smaller i → all (differ k) ks ≡ true
+      go : (t : Bool) → all (differ k) ks ≡ t → ◌≡◌ {A = Result Found Refusal} (pick t (Ok (Smaller r)) (Ok (Equal r))) (Ok (Smaller i)) → all (differ k) ks ≡ true
       go true a e = a
       go false a e = absurd (let z : ◌≡◌ {A = ℕ} 0 1 = cc in omega arith)
 
-  never-refused : (q : Refusal) → pick (all (differ k) ks) (Smaller r) (Equal r) ≡ Found-as-Refused q → ⊥
+  never-refused : (q : Refusal) → pick (all (differ k) ks) (Ok (Smaller r)) (Ok (Equal r)) ≡ Err q → ⊥
   never-refused q e = go (all (differ k) ks) e
     where
-      go : (t : Bool) → pick t (Smaller r) (Equal r) ≡ Found-as-Refused q → ⊥
+      go : (t : Bool) → pick t (Ok (Smaller r)) (Ok (Equal r)) ≡ Err q → ⊥
       go true e = let z : ◌≡◌ {A = ℕ} 0 1 = cc in omega arith
       go false e = let z : ◌≡◌ {A = ℕ} 0 1 = cc in omega arith
 
 -- ---- the slot of a key; t and s say whether the values fit, n is the prefix's length and c the class as a number, x the key's suffix
 module _ (w : ℕ) (p k : List ℕ) (expected new : ℕ) (T : Tested w p (length k)) (t : Bool) (a : t ≡ fits_width w expected) where
-  pub held-range : t ≡ false → held_with w p k expected new ≡ Held-as-Refused ValueRange
+  pub held-range : t ≡ false → held_with w p k expected new ≡ Err ValueRange
   unfolding held_with judge
   held-range g = rw (← a, g)
 
   module _ (fits : t ≡ true) (s : Bool) (d : s ≡ fits_width w new) where
-    pub held-range-new : s ≡ false → held_with w p k expected new ≡ Held-as-Refused ValueRange
+    pub held-range-new : s ≡ false → held_with w p k expected new ≡ Err ValueRange
     unfolding held_with judge
     held-range-new g = rw (← a, fits, ← d, g)
 
     module _ (fits-new : s ≡ true) (n : ℕ) (r : n ≡ le 2 p 46) (c : ℕ) (f : c ≡ class_number (class_by p n k)) where
-      pub held-lacks : (c ≡ 1 → ⊥) → held_with w p k expected new ≡ Held-as-Refused Prefix
+      pub held-lacks : (c ≡ 1 → ⊥) → held_with w p k expected new ≡ Err Prefix
       unfolding held_with judge
       held-lacks g = rw (← a, fits, ← d, fits-new, prefix-not p k n r c f g)
 
-      module _ (one : c ≡ 1) (x : List ℕ) (m : x ≡ probe_suffix (frame_of p) k) (b : IsBytes p) (hk : IsBytes k) (y : Found) (found : y ≡ find_in w p (header_of p) x) where
+      module _ (one : c ≡ 1) (x : List ℕ) (m : x ≡ probe_suffix (frame_of p) k) (b : IsBytes p) (hk : IsBytes k) (y : Result Found Refusal) (found : y ≡ find_in w p (header_of p) x) where
         has : has_prefix (frame_of p) k ≡ true
         has = prefix-held p k n r c f one
 
-        scanned : pick (all (differ k) (keys (listing w p))) (Smaller (scan false k (listing w p))) (Equal (scan false k (listing w p))) ≡ y
+        scanned : pick (all (differ k) (keys (listing w p))) (Ok (Smaller (scan false k (listing w p)))) (Ok (Equal (scan false k (listing w p)))) ≡ y
         unfolding find_scan
         scanned = sym (found ∙ found-scan w p T.size b (tested-fit w p (length k) T) k hk has x m)
 
-        pub held_none : (i : ℕ) → y ≡ Smaller i → held_with w p k expected new ≡ Held-as-Refused NotFound
+        pub held_none : (i : ℕ) → y ≡ Ok (Smaller i) → held_with w p k expected new ≡ Err NotFound
         unfolding held_with judge
         held_none i e =
             let absent = smaller-says k (keys (listing w p)) (scan false k (listing w p)) i (scanned ∙ e) in
             rw (← a, fits, ← d, fits-new, has, absent)
 
-        pub held-no-search : (q : Refusal) → y ≡ Found-as-Refused q → ⊥
+        pub held-no-search : (q : Refusal) → y ≡ Err q → ⊥
         held-no-search q e = never-refused k (keys (listing w p)) (scan false k (listing w p)) q (scanned ∙ e)
 
-        module _ (i : ℕ) (e : y ≡ Equal i) where
+        module _ (i : ℕ) (e : y ≡ Ok (Equal i)) where
           says : (i ≡ scan false k (listing w p)) × (all (differ k) (keys (listing w p)) ≡ false)
           says = equal-says k (keys (listing w p)) (scan false k (listing w p)) i (scanned ∙ e)
 
@@ -137,31 +135,24 @@ module _ (w : ℕ) (p k : List ℕ) (expected new : ℕ) (T : Tested w p (length
           held_found = let z = says.0 in let present = says.1 in rw (← a, fits, ← d, fits-new, has, present, z)
 
 -- ---- the page
-at_not : (i : ℕ) (q : Refusal) → Held-as-At i ≡ Held-as-Refused q → ⊥
-at_not i q e = let z : ◌≡◌ {A = ℕ} 0 1 = cc in omega arith
-
-refused_is : (x q : Refusal) → Held-as-Refused x ≡ Held-as-Refused q → x ≡ q
-refused_is x q e = cc
-
 module _ (w : ℕ) (p k : List ℕ) (expected new : ℕ) where
-  pub set-kept : (q : Refusal) → held_with w p k expected new ≡ Held-as-Refused q → (Replaced-as-Refused q ≡ set_with w p k expected new) × (p ≡ value_set_with w p k expected new)
+  pub set-kept : (q : Refusal) → held_with w p k expected new ≡ Err q → (Err q ≡ set_with w p k expected new) × (p ≡ value_set_with w p k expected new)
   unfolding held_with set_with value_set_with
-  set-kept q e = (sym (alike _ Replaced-as-Refused), sym (alike _ (λ r. p)))
+  set-kept q e = (sym (alike _ Err), sym (alike _ (λ r. p)))
     where
       alike : {A : Type 0} (a : A) (r : Refusal → A) → judge (set_tests w p k expected new) a r ≡ r q
       alike a r =
-          refused-judge (set_tests w p k expected new) (Held-as-At (scan false k (listing w p))) Held-as-Refused q (λ x m. refused_is x q m) (at_not (scan false k (listing w p)) q) e
-          a r
+          refused-judge (set_tests w p k expected new) (scan false k (listing w p)) q e a r
 
-  module _ (i : ℕ) (e : held_with w p k expected new ≡ Held-as-At i) where
+  module _ (i : ℕ) (e : held_with w p k expected new ≡ Ok i) where
     holds : Hold (set_tests w p k expected new)
     unfolding held_with
-    holds = hold_judge (set_tests w p k expected new) (Held-as-At (scan false k (listing w p))) (Held-as-At i) Held-as-Refused (λ q m. at_not i q (sym m)) e
+    holds = answer_holds (set_tests w p k expected new) (scan false k (listing w p)) i e
 
     slot_is : i ≡ scan false k (listing w p)
     slot_is =
-        let a : held_with w p k expected new ≡ Held-as-At (scan false k (listing w p)) =
-        unfold held_with in judge_hold (set_tests w p k expected new) (Held-as-At (scan false k (listing w p))) Held-as-Refused holds in
+        let a : held_with w p k expected new ≡ Ok (scan false k (listing w p)) =
+        unfold held_with in judge_hold (set_tests w p k expected new) (Ok (scan false k (listing w p))) Err holds in
         cc
 
     tests-say : (all (differ k) (keys (listing w p)) ≡ false) × (stored_value w p k ≡ expected)
@@ -178,21 +169,21 @@ module _ (w : ℕ) (p k : List ℕ) (expected new : ℕ) where
         → (16384 ≤ length p) × (8 * i + 8 ≤ 16256) × ((slot_of p i).offset + payload_bytes w (slot_of p i).len ≤ 16256)
     set-asked T b = given w p k T b i slot_is tests-say.0
 
-    pub set-done : (q : List ℕ) → q ≡ value_set w p i new → (Old expected ≡ set_with w p k expected new) × (q ≡ value_set_with w p k expected new)
+    pub set-done : (q : List ℕ) → q ≡ value_set w p i new → (Ok expected ≡ set_with w p k expected new) × (q ≡ value_set_with w p k expected new)
     unfolding set_with value_set_with
     set-done q m = (
-      ap Old (sym tests-say.1) ∙ sym (judge_hold (set_tests w p k expected new) (Old (stored_value w p k)) Replaced-as-Refused holds),
+      ap Ok (sym tests-say.1) ∙ sym (judge_hold (set_tests w p k expected new) (Ok (stored_value w p k)) Err holds),
       m ∙ rw slot_is (sym (judge_hold (set_tests w p k expected new) (value_set w p (scan false k (listing w p)) new) (λ r. p) holds)),
     )
 
   -- ---- the whole call
-  pub set-refused : (q : Refusal) → fit_admit_of w p (length k) ≡ Admitted-as-Refused q → (Replaced-as-Refused q ≡ set_of w p k expected new) × (p ≡ set_page w p k expected new)
+  pub set-refused : (q : Refusal) → fit_admit_of w p (length k) ≡ Err q → (Err q ≡ set_of w p k expected new) × (p ≡ set_page w p k expected new)
   unfolding set_of set_page set_checks
   set-refused q e =
-      (sym (judge-refused w p (length k) (set_tests w p k expected new) _ Replaced-as-Refused q e), sym (judge-refused w p (length k) (set_tests w p k expected new) _ (λ r. p) q e))
+      (sym (judge-refused w p (length k) (set_tests w p k expected new) _ Err q e), sym (judge-refused w p (length k) (set_tests w p k expected new) _ (λ r. p) q e))
 
-  pub set-fitted : (h : Header) → fit_admit_of w p (length k) ≡ Admitted-as-Is h
+  pub set-fitted : (h : Header) → fit_admit_of w p (length k) ≡ Ok h
       → (set_with w p k expected new ≡ set_of w p k expected new) × (value_set_with w p k expected new ≡ set_page w p k expected new)
   unfolding set_of set_page set_checks set_with value_set_with
   set-fitted h e =
-      (sym (judge-fitted w p (length k) (set_tests w p k expected new) _ Replaced-as-Refused h e), sym (judge-fitted w p (length k) (set_tests w p k expected new) _ (λ r. p) h e))
+      (sym (judge-fitted w p (length k) (set_tests w p k expected new) _ Err h e), sym (judge-fitted w p (length k) (set_tests w p k expected new) _ (λ r. p) h e))

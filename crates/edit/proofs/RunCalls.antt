@@ -21,21 +21,19 @@ use Rattle.paper.specs.Calls.{is_width, has_prefix, key_at, run, entry_checks, a
 use Rattle.paper.specs.declared.page.Header.{Header}
 use Rattle.paper.specs.declared.refusal.Refusal.{Refusal}
 use Rattle.paper.specs.declared.refusal.Refusal.TheVariants.{PageLength, Width, NotFit, SlotNumber, Neighbours, NoRoom}
-use Rattle.paper.specs.declared.answers.Edited.{Edited}
-use Rattle.paper.specs.declared.answers.Edited.TheVariants.{Done, Refused as Edited-as-Refused}
 use Rattle.paper.proofs.Lists.{both_parts, all_parts}
 use Rattle.paper.proofs.Same.{body_bytes_long}
 use Rattle.paper.proofs.Fit.{Fit, Rules, fit}
 use Rattle.paper.proofs.Filing.{frame-rules}
 use Rattle.paper.proofs.Holding.{Hold, judge_hold, done_holds, refused-judge, judge-append}
-use Rattle.node.specs.declared.admit.Admitted.TheVariants.{Is as Admitted-as-Is, Refused as Admitted-as-Refused}
 use Rattle.search.proofs.Asked.{prefix_fits, fences-fit}
 use Rattle.verdict.specs.Fits.{fit_header_of}
 use Rattle.write.specs.Room.{Source, Ready}
 use Rattle.write.proofs.Givens.{payload-given, source-given, ready-given}
 use Rattle.edit.specs.RunTests.{Shown, Fenced, standing_from, passes_last, needs_from, run_tests, run_judged, run_written}
 use Rattle.edit.proofs.Cuts.{gone-is}
-use Rattle.edit.proofs.RunKeys.{refused-one, done_not, first-held, standing-run, needs-run, above-run}
+use Rattle.edit.proofs.RunKeys.{first-held, standing-run, needs-run, above-run}
+use Rattle.std.specs.Prelude.{Result, Ok, Err, ⊤}
 
 -- ---- a width that is known
 width-most : (w : ℕ) → is_width w ≡ true → w ≤ 8
@@ -78,15 +76,15 @@ module _ (w : ℕ) (p q : List ℕ) (a n : ℕ) where
       ∷ check (leb (need_of_all w p (run w q a n)) (free (numbers_of p))) NoRoom
       ∷ []
 
-  past : (numbers_of q).count < a + n → Edited-as-Refused SlotNumber ≡ run_judged w p q a n
+  past : (numbers_of q).count < a + n → Err SlotNumber ≡ run_judged w p q a n
   unfolding run_judged judge
   past l = rw (lt-leb (a + n) (numbers_of q).count l)
 
-  parted : a + n ≤ (numbers_of q).count → run_judged w p q a n ≡ judge (entry_checks p (run w q a n)) (judge lastChecks Done Edited-as-Refused) Edited-as-Refused
+  parted : a + n ≤ (numbers_of q).count → run_judged w p q a n ≡ judge (entry_checks p (run w q a n)) (judge lastChecks (Ok tt) Err) Err
   unfolding run_judged
-  parted l = first ∙ judge-append (entry_checks p (run w q a n)) lastChecks Done Edited-as-Refused
+  parted l = first ∙ judge-append (entry_checks p (run w q a n)) lastChecks (Ok tt) Err
     where
-      first : judge (run_tests w p q a n) Done Edited-as-Refused ≡ judge (entry_checks p (run w q a n) ++ lastChecks) Done Edited-as-Refused
+      first : ◌≡◌ {A = Result ⊤ Refusal} (judge (run_tests w p q a n) (Ok tt) Err) (judge (entry_checks p (run w q a n) ++ lastChecks) (Ok tt) Err)
       first = unfold judge in rw (le-leb (a + n) (numbers_of q).count l)
 
   module _ (h g : Header) (F : Fenced p h) (Q : Shown q g.prefix_len) (G : g ≡ header_of q) where
@@ -94,41 +92,40 @@ module _ (w : ℕ) (p q : List ℕ) (a n : ℕ) where
     unfolding header_of
     count-is = ap (λ (x : Header). x.count) (sym G)
 
-    pub judged-beyond : g.count < a → Edited-as-Refused SlotNumber ≡ run_judged w p q a n
+    pub judged-beyond : g.count < a → Err SlotNumber ≡ run_judged w p q a n
     judged-beyond l = past (omega (arith, count-is))
 
     module _ (l : a ≤ g.count) where
-      pub judged-past : g.count - a < n → Edited-as-Refused SlotNumber ≡ run_judged w p q a n
+      pub judged-past : g.count - a < n → Err SlotNumber ≡ run_judged w p q a n
       judged-past m = past (omega (arith, count-is))
 
       module _ (m : n ≤ g.count - a) where
         pub there : a + n ≤ (numbers_of q).count
         there = omega (arith, count-is)
 
-        pub judged-none : n ≡ 0 → Done ≡ run_judged w p q a n
+        pub judged-none : n ≡ 0 → Ok tt ≡ run_judged w p q a n
         judged-none z = sym (parted there ∙ empty z)
           where
-            empty : n ≡ 0 → judge (entry_checks p (run w q a n)) (judge lastChecks Done Edited-as-Refused) Edited-as-Refused ≡ Done
+            empty : n ≡ 0 → ◌≡◌ {A = Result ⊤ Refusal} (judge (entry_checks p (run w q a n)) (judge lastChecks (Ok tt) Err) Err) (Ok tt)
             empty z = unfold judge entry_checks above_last need_of_all sum in rw (z, le-leb 0 (free (numbers_of p)) (omega arith))
 
         -- r is what 8 and 9 said
-        module _ (some : n ≡ 0 → ⊥) (r : Edited) (f : r ≡ standing_from p q a n) where
-          stood : judge (entry_checks p (run w q a n)) Done Edited-as-Refused ≡ r
+        module _ (some : n ≡ 0 → ⊥) (r : Result ⊤ Refusal) (f : r ≡ standing_from p q a n) where
+          stood : judge (entry_checks p (run w q a n)) (Ok tt) Err ≡ r
           stood = standing-run w q p n a there ∙ sym f
 
-          pub judged-entry : (x : Refusal) → r ≡ Edited-as-Refused x → r ≡ run_judged w p q a n
+          pub judged-entry : (x : Refusal) → r ≡ Err x → Err x ≡ run_judged w p q a n
           judged-entry x t =
-              t
-              ∙ sym
+              sym
               (parted there
-              ∙ refused-judge (entry_checks p (run w q a n)) Done Edited-as-Refused x (λ y. refused-one y x) (done_not x) (stood ∙ t) (judge lastChecks Done Edited-as-Refused) Edited-as-Refused)
+              ∙ refused-judge (entry_checks p (run w q a n)) tt x (stood ∙ t) (judge lastChecks (Ok tt) Err) Err)
 
-          module _ (t : r ≡ Done) where
+          module _ (t : r ≡ Ok tt) where
             pub first-asked : (a < (numbers_of q).count) × (has_prefix (frame_of p) (key_at q (slot_of q a)) ≡ true)
             first-asked = (omega (arith, there), first-held p q a n some r f t)
 
-            ended : run_judged w p q a n ≡ judge lastChecks Done Edited-as-Refused
-            ended = parted there ∙ judge_hold (entry_checks p (run w q a n)) (judge lastChecks Done Edited-as-Refused) Edited-as-Refused (done_holds (entry_checks p (run w q a n)) (stood ∙ t))
+            ended : run_judged w p q a n ≡ judge lastChecks (Ok tt) Err
+            ended = parted there ∙ judge_hold (entry_checks p (run w q a n)) (judge lastChecks (Ok tt) Err) Err (done_holds (entry_checks p (run w q a n)) (stood ∙ t))
 
             -- b is what 12 said
             module _ (b : Bool) (k : b ≡ passes_last p h.count (key_at q (slot_of q a))) where
@@ -136,7 +133,7 @@ module _ (w : ℕ) (p q : List ℕ) (a n : ℕ) where
               unfolding header_of
               above-is = above-run w q p n a some there ∙ sym (k ∙ ap (λ (x : Header). passes_last p x.count (key_at q (slot_of q a))) F.header)
 
-              pub judged-neighbours : b ≡ false → Edited-as-Refused Neighbours ≡ run_judged w p q a n
+              pub judged-neighbours : b ≡ false → Err Neighbours ≡ run_judged w p q a n
               unfolding judge
               judged-neighbours y = sym (ended ∙ rw (above-is, y))
 
@@ -148,22 +145,22 @@ module _ (w : ℕ) (p q : List ℕ) (a n : ℕ) where
                     free-is : free (numbers_of p) ≡ h.end - h.start
                     free-is = unfold header_of in ap (λ (x : Header). x.end - x.start) (sym F.header)
 
-                pub judged-full : c ≡ false → Edited-as-Refused NoRoom ≡ run_judged w p q a n
+                pub judged-full : c ≡ false → Err NoRoom ≡ run_judged w p q a n
                 unfolding judge
                 judged-full v = sym (ended ∙ rw (above-is, y, room_is, v))
 
-                pub judged-done : c ≡ true → Done ≡ run_judged w p q a n
+                pub judged-done : c ≡ true → Ok tt ≡ run_judged w p q a n
                 unfolding judge
                 judged-done v = sym (ended ∙ rw (above-is, y, room_is, v))
 
   -- ---- then the entries are written; r is what the tests said
-  module _ (r : Edited) (f : r ≡ run_judged w p q a n) where
-    pub copy-refused : (x : Refusal) → r ≡ Edited-as-Refused x → (r ≡ run_judged w p q a n) × (p ≡ run_written w p q a n)
+  module _ (r : Result ⊤ Refusal) (f : r ≡ run_judged w p q a n) where
+    pub copy-refused : (x : Refusal) → r ≡ Err x → (Err x ≡ run_judged w p q a n) × (p ≡ run_written w p q a n)
     unfolding run_written run_judged
     copy-refused x t =
-        (f, sym (refused-judge (run_tests w p q a n) Done Edited-as-Refused x (λ y. refused-one y x) (done_not x) (sym f ∙ t) (run_copied w p (run w q a n)) (λ y. p)))
+        (sym t ∙ f, sym (refused-judge (run_tests w p q a n) tt x (sym f ∙ t) (run_copied w p (run w q a n)) (λ y. p)))
 
-    module _ (t : r ≡ Done) where
+    module _ (t : r ≡ Ok tt) where
       held : Hold (run_tests w p q a n)
       unfolding run_judged
       held = done_holds (run_tests w p q a n) (sym f ∙ t)
@@ -185,56 +182,56 @@ module _ (w : ℕ) (p q : List ℕ) (a n : ℕ) where
         rw eh (ready-given w p sp (facts w p sp fp h eh) (run w q a n) rooms.1),
       )
 
-      pub copy_done : (x : List ℕ) → x ≡ run_copied w p (run w q a n) → (Done ≡ run_judged w p q a n) × (x ≡ run_written w p q a n)
+      pub copy_done : (x : List ℕ) → x ≡ run_copied w p (run w q a n) → (Ok tt ≡ run_judged w p q a n) × (x ≡ run_written w p q a n)
       unfolding run_written
       copy_done x e = (sym t ∙ f, e ∙ sym (judge_hold (run_tests w p q a n) (run_copied w p (run w q a n)) (λ y. p) held))
 
 -- ---- what 5 said of a page
-unfit : (w : ℕ) (p : List ℕ) (x : Refusal) → fit_header_of w p ≡ Admitted-as-Refused x → (eqb (fit_of w p) 0 ≡ false) × (NotFit (fit_of w p) ≡ x)
+unfit : (w : ℕ) (p : List ℕ) (x : Refusal) → fit_header_of w p ≡ Err x → (eqb (fit_of w p) 0 ≡ false) × (NotFit (fit_of w p) ≡ x)
 unfolding fit_header_of judge
 unfit w p x e = go (eqb (fit_of w p) 0) e
   where
-    go : (t : Bool) → pick t (Admitted-as-Is (header_of p)) (Admitted-as-Refused (NotFit (fit_of w p))) ≡ Admitted-as-Refused x → (t ≡ false) × (NotFit (fit_of w p) ≡ x)
+    go : (t : Bool) → ◌≡◌ {A = Result Header Refusal} (pick t (Ok (header_of p)) (Err (NotFit (fit_of w p)))) (Err x) → (t ≡ false) × (NotFit (fit_of w p) ≡ x)
     go true e = absurd (let z : ◌≡◌ {A = ℕ} 0 1 = cc in omega arith)
     go false e = (refl, cc)
 
-pub fit-told : (w : ℕ) (p : List ℕ) (h : Header) → fit_header_of w p ≡ Admitted-as-Is h → (fit_of w p ≡ 0) × (h ≡ header_of p)
+pub fit-told : (w : ℕ) (p : List ℕ) (h : Header) → fit_header_of w p ≡ Ok h → (fit_of w p ≡ 0) × (h ≡ header_of p)
 unfolding fit_header_of judge
 fit-told w p h e = let r = go (eqb (fit_of w p) 0) e in (eqb-true (fit_of w p) 0 r.0, r.1)
   where
-    go : (t : Bool) → pick t (Admitted-as-Is (header_of p)) (Admitted-as-Refused (NotFit (fit_of w p))) ≡ Admitted-as-Is h → (t ≡ true) × (h ≡ header_of p)
+    go : (t : Bool) → ◌≡◌ {A = Result Header Refusal} (pick t (Ok (header_of p)) (Err (NotFit (fit_of w p)))) (Ok h) → (t ≡ true) × (h ≡ header_of p)
     go true e = (refl, cc)
     go false e = absurd (let z : ◌≡◌ {A = ℕ} 0 1 = cc in omega arith)
 
 -- ---- the whole call
 module _ (w : ℕ) (p q : List ℕ) (a n : ℕ) where
-  pub run-size : (length p ≡ 16384 → ⊥) → (Edited-as-Refused PageLength ≡ run_of w p q a n) × (p ≡ run_page w p q a n)
+  pub run-size : (length p ≡ 16384 → ⊥) → (Err PageLength ≡ run_of w p q a n) × (p ≡ run_page w p q a n)
   unfolding run_of run_page run_checks judge
   run-size s = rw (ne_eqb (length p) 16384 s) (refl, refl)
 
   module _ (s : length p ≡ 16384) where
-    pub run-source : (length q ≡ 16384 → ⊥) → (Edited-as-Refused PageLength ≡ run_of w p q a n) × (p ≡ run_page w p q a n)
+    pub run-source : (length q ≡ 16384 → ⊥) → (Err PageLength ≡ run_of w p q a n) × (p ≡ run_page w p q a n)
     unfolding run_of run_page run_checks judge
     run-source o = rw (eq-eqb (length p) 16384 s, ne_eqb (length q) 16384 o) (refl, refl)
 
     module _ (o : length q ≡ 16384) where
-      pub run-width : is_width w ≡ false → (Edited-as-Refused Width ≡ run_of w p q a n) × (p ≡ run_page w p q a n)
+      pub run-width : is_width w ≡ false → (Err Width ≡ run_of w p q a n) × (p ≡ run_page w p q a n)
       unfolding run_of run_page run_checks judge
       run-width k = rw (eq-eqb (length p) 16384 s, eq-eqb (length q) 16384 o, k) (refl, refl)
 
       module _ (k : is_width w ≡ true) where
-        pub run-unfit : (x : Refusal) → fit_header_of w p ≡ Admitted-as-Refused x → (Edited-as-Refused x ≡ run_of w p q a n) × (p ≡ run_page w p q a n)
+        pub run-unfit : (x : Refusal) → fit_header_of w p ≡ Err x → (Err x ≡ run_of w p q a n) × (p ≡ run_page w p q a n)
         unfolding run_of run_page run_checks judge
         run-unfit x e = let u = unfit w p x e in rw (eq-eqb (length p) 16384 s, eq-eqb (length q) 16384 o, k, u.0, u.1) (refl, refl)
 
-        module _ (h : Header) (e : fit_header_of w p ≡ Admitted-as-Is h) where
-          pub run-unfit-source : (x : Refusal) → fit_header_of w q ≡ Admitted-as-Refused x → (Edited-as-Refused x ≡ run_of w p q a n) × (p ≡ run_page w p q a n)
+        module _ (h : Header) (e : fit_header_of w p ≡ Ok h) where
+          pub run-unfit-source : (x : Refusal) → fit_header_of w q ≡ Err x → (Err x ≡ run_of w p q a n) × (p ≡ run_page w p q a n)
           unfolding run_of run_page run_checks judge
           run-unfit-source x d =
               let u = unfit w q x d in
               rw (eq-eqb (length p) 16384 s, eq-eqb (length q) 16384 o, k, eq-eqb (fit_of w p) 0 (fit-told w p h e).0, u.0, u.1) (refl, refl)
 
-          pub run-fitted : (g : Header) → fit_header_of w q ≡ Admitted-as-Is g → (r : Edited) (x : List ℕ) → r ≡ run_judged w p q a n → x ≡ run_written w p q a n
+          pub run-fitted : (g : Header) → fit_header_of w q ≡ Ok g → (r : Result ⊤ Refusal) (x : List ℕ) → r ≡ run_judged w p q a n → x ≡ run_written w p q a n
               → (r ≡ run_of w p q a n) × (x ≡ run_page w p q a n)
           unfolding run_of run_page run_checks run_judged run_written judge
           run-fitted g d r x er ex =

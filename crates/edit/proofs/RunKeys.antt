@@ -16,7 +16,7 @@ use Rattle.keys.specs.Choice.{pick}
 use Rattle.keys.specs.Keys.{same_list}
 use Rattle.keys.proofs.Numbers.{alike?}
 use Rattle.keys.proofs.Orders.{order-append, same_list_eq}
-use Rattle.paper.specs.Lists.{sum, is_below, less}
+use Rattle.paper.specs.Lists.{sum, less}
 use Rattle.paper.specs.Page.{slot_at, place, slot_of, prefix_of, suffix_of, value_at, body_bytes, frame_of, numbers_of, header_of}
 use Rattle.paper.specs.Space.{need}
 use Rattle.paper.specs.Listing.{Entry, listing, keys}
@@ -26,10 +26,8 @@ use Rattle.paper.specs.declared.page.Slot.{Slot}
 use Rattle.paper.specs.declared.page.Header.{Header}
 use Rattle.paper.specs.declared.refusal.Refusal.{Refusal}
 use Rattle.paper.specs.declared.refusal.Refusal.TheVariants.{Prefix}
-use Rattle.paper.specs.declared.answers.Edited.{Edited}
-use Rattle.paper.specs.declared.answers.Edited.TheVariants.{Done, Refused as Edited-as-Refused}
 use Rattle.paper.proofs.Same.{body_bytes_long}
-use Rattle.paper.proofs.Holding.{judge_hold, done_holds, refused-judge}
+use Rattle.paper.proofs.Holding.{judge_hold, done_holds, err_ok, refused-judge}
 use Rattle.paper.proofs.Listed.{listed}
 use Rattle.paper.proofs.Filing.{length-listing}
 use Rattle.paper.proofs.CopyingFit.{prefix_whole}
@@ -37,14 +35,10 @@ use Rattle.node.proofs.Spelling.{length-prefix_of, length-suffix_of, length_four
 use Rattle.search.specs.Fence.{LongLies}
 use Rattle.edit.specs.RunTests.{Shown, Fenced, Meeting, standing, standing_from, passes_last, needs_from}
 use Rattle.edit.proofs.Cuts.{drop-two, gone-is, whole_is, whole_length}
+use Rattle.std.specs.Prelude.{Result, Ok, Err, ⊤}
+use Rattle.std.specs.Ordering.{is_lt}
 
 -- ---- refusals and answers of an edit
-pub refused-one : (x y : Refusal) → Edited-as-Refused x ≡ Edited-as-Refused y → x ≡ y
-refused-one x y e = cc
-
-pub done_not : (x : Refusal) → Done ≡ Edited-as-Refused x → ⊥
-done_not x e = let z : ◌≡◌ {A = ℕ} 0 1 = cc in omega arith
-
 -- ---- what was read of the source
 pub shown-own : (q : List ℕ) (l : ℕ) → Shown q l → Shown q (frame_of q).prefix_len
 shown-own q l Q = record { size = Q.size; prefix = refl; most = rw (← Q.prefix) Q.most; slots = Q.slots; rows = Q.rows }
@@ -83,43 +77,42 @@ module _ (p q : List ℕ) (j e : ℕ) (lt : j < e) where
   abbrev key : List ℕ
   key = key_at q (slot_of q j)
 
-  standing-turn : standing_from p q j (e - j) ≡ judge (prefix_held p key ∷ inside_fences p key ∷ []) (standing_from p q (j + 1) (e - (j + 1))) Edited-as-Refused
+  standing-turn : standing_from p q j (e - j) ≡ judge (prefix_held p key ∷ inside_fences p key ∷ []) (standing_from p q (j + 1) (e - (j + 1))) Err
   unfolding standing_from
   standing-turn = let k : e - j ≡ suc (e - (j + 1)) = omega arith in rw k
 
   -- P is the source's prefix and s the slot that were read, r what was found of them
-  module _ (P : List ℕ) (f : P ≡ (frame_of q).prefix) (s : Slot) (g : s ≡ slot_at q (place j)) (r : Edited) (k : r ≡ standing p (P ++ suffix_of q s)) where
+  module _ (P : List ℕ) (f : P ≡ (frame_of q).prefix) (s : Slot) (g : s ≡ slot_at q (place j)) (r : Result ⊤ Refusal) (k : r ≡ standing p (P ++ suffix_of q s)) where
     found : r ≡ standing p key
     unfolding key_at slot_of
     found = k ∙ rw (f, g)
 
-    pub stand-refused : (x : Refusal) → r ≡ Edited-as-Refused x → r ≡ standing_from p q j (e - j)
+    pub stand-refused : (x : Refusal) → r ≡ Err x → Err x ≡ standing_from p q j (e - j)
     unfolding standing
     stand-refused x t =
-        t
-        ∙ sym
+        sym
         (standing-turn
-        ∙ refused-judge (prefix_held p key ∷ inside_fences p key ∷ []) Done Edited-as-Refused x (λ y. refused-one y x) (done_not x) (sym found ∙ t) (standing_from p q (j + 1) (e - (j + 1))) Edited-as-Refused)
+        ∙ refused-judge (prefix_held p key ∷ inside_fences p key ∷ []) tt x (sym found ∙ t) (standing_from p q (j + 1) (e - (j + 1))) Err)
 
-    pub stand-on : r ≡ Done → standing_from p q j (e - j) ≡ standing_from p q (j + 1) (e - (j + 1))
+    pub stand-on : r ≡ Ok tt → standing_from p q j (e - j) ≡ standing_from p q (j + 1) (e - (j + 1))
     unfolding standing
     stand-on t =
-        standing-turn ∙ judge_hold (prefix_held p key ∷ inside_fences p key ∷ []) (standing_from p q (j + 1) (e - (j + 1))) Edited-as-Refused (done_holds (prefix_held p key ∷ inside_fences p key ∷ []) (sym found ∙ t))
+        standing-turn ∙ judge_hold (prefix_held p key ∷ inside_fences p key ∷ []) (standing_from p q (j + 1) (e - (j + 1))) Err (done_holds (prefix_held p key ∷ inside_fences p key ∷ []) (sym found ∙ t))
 
-pub stand_end : (p q : List ℕ) (j e : ℕ) → e ≤ j → standing_from p q j (e - j) ≡ Done
+pub stand_end : (p q : List ℕ) (j e : ℕ) → e ≤ j → standing_from p q j (e - j) ≡ Ok tt
 unfolding standing_from
 stand_end p q j e h = let k : e - j ≡ 0 = omega arith in rw k
 
 -- the first entry has the prefix where none is refused
-first_has : (p q : List ℕ) (a n : ℕ) → standing_from p q a (suc n) ≡ Done → has_prefix (frame_of p) (key_at q (slot_of q a)) ≡ true
+first_has : (p q : List ℕ) (a n : ℕ) → standing_from p q a (suc n) ≡ Ok tt → has_prefix (frame_of p) (key_at q (slot_of q a)) ≡ true
 unfolding standing_from judge
 first_has p q a n e = go (has_prefix (frame_of p) (key_at q (slot_of q a))) _ e
   where
-    go : (t : Bool) (x : Edited) → pick t x (Edited-as-Refused Prefix) ≡ Done → t ≡ true
+    go : (t : Bool) (x : Result ⊤ Refusal) → pick t x (Err Prefix) ≡ Ok tt → t ≡ true
     go true x e = refl
-    go false x e = absurd (done_not Prefix (sym e))
+    go false x e = absurd (err_ok tt Prefix e)
 
-pub first-held : (p q : List ℕ) (a n : ℕ) → (n ≡ 0 → ⊥) → (r : Edited) → r ≡ standing_from p q a n → r ≡ Done → has_prefix (frame_of p) (key_at q (slot_of q a)) ≡ true
+pub first-held : (p q : List ℕ) (a n : ℕ) → (n ≡ 0 → ⊥) → (r : Result ⊤ Refusal) → r ≡ standing_from p q a n → r ≡ Ok tt → has_prefix (frame_of p) (key_at q (slot_of q a)) ≡ true
 first-held p q a zero z r f t = absurd (z refl)
 first-held p q a (suc n) z r f t = first_has p q a n (sym f ∙ t)
 
@@ -196,7 +189,7 @@ module _ (p : List ℕ) (h : Header) (F : Fenced p h) (q : List ℕ) (l a : ℕ)
     last-passed r k =
         k
         ∙ rw (ne_eqb h.count 0 some)
-        (ap is_below
+        (ap is_lt
         (sym (order-append (frame_of p).prefix (suffix_of p last) _)
         ∙ rw (take_all (length P - c) (drop c P) (rw length-drop (omega arith)), ← drop-two h.prefix_len P (suffix_of q s) c d, key-is, ← gone-is p h F, prefix_whole (frame_of p) (key_at q (slot_of q a)) held, e)))
 
@@ -215,7 +208,7 @@ module _ (w : ℕ) (q : List ℕ) where
 
   -- 8 and 9
   module _ (p : List ℕ) where
-    pub standing-run : (n a : ℕ) → a + n ≤ (numbers_of q).count → judge (entry_checks p (run w q a n)) Done Edited-as-Refused ≡ standing_from p q a n
+    pub standing-run : (n a : ℕ) → a + n ≤ (numbers_of q).count → judge (entry_checks p (run w q a n)) (Ok tt) Err ≡ standing_from p q a n
     unfolding entry_checks standing_from judge
     standing-run zero a h = refl
     standing-run (suc n) a h = rw (run-first a n (omega arith), standing-run n (a + 1) (omega arith))

@@ -15,13 +15,13 @@ use Rattle.paper.specs.declared.refusal.Refusal.{Refusal}
 use Rattle.paper.proofs.Fit.{Fit, Rules, fit}
 use Rattle.paper.proofs.Filing.{frame-rules}
 use Rattle.paper.proofs.Holding.{judge-append}
-use Rattle.node.specs.declared.admit.Admitted.TheVariants.{Is as Admitted-as-Is, Refused as Admitted-as-Refused}
 use Rattle.search.specs.Probe.{class_by, class_number}
 use Rattle.search.proofs.Classes.{has-prefix, lacks-prefix}
 use Rattle.search.proofs.Asked.{prefix_fits, slots-fit, prefix-read}
 use Rattle.verdict.specs.Fits.{fit_checks, fit_admit_of}
 use Rattle.verdict.proofs.Fitness.{fitted, fitted-judge, unfit-judge}
 use Rattle.edit.specs.Tested.{Tested}
+use Rattle.std.specs.Prelude.{Ok, Err}
 
 -- ---- the prefix, by its length m as it was read, and by the class c as a number
 module _ (p k : List ℕ) (m : ℕ) (e : m ≡ le 2 p 46) (c : ℕ) (f : c ≡ class_number (class_by p m k)) where
@@ -36,7 +36,7 @@ module _ (p k : List ℕ) (m : ℕ) (e : m ≡ le 2 p 46) (c : ℕ) (f : c ≡ c
 
 -- ---- the tests
 module _ (w : ℕ) (p : List ℕ) (n : ℕ) where
-  pub tested : (h : Header) → fit_admit_of w p n ≡ Admitted-as-Is h → Tested w p n
+  pub tested : (h : Header) → fit_admit_of w p n ≡ Ok h → Tested w p n
   tested h e =
       let F = fitted w p n h e in
       record { size = F.size; width = F.width; key_length = F.key_length; verdict = F.verdict }
@@ -59,8 +59,8 @@ module _ (w : ℕ) (p : List ℕ) (n : ℕ) where
 
   -- a call with more tests after them
   module _ (rest : List Check) {A : Type 0} (a : A) (r : Refusal → A) where
-    pub judge-refused : (q : Refusal) → fit_admit_of w p n ≡ Admitted-as-Refused q → judge (fit_checks w p n ++ rest) a r ≡ r q
+    pub judge-refused : (q : Refusal) → fit_admit_of w p n ≡ Err q → judge (fit_checks w p n ++ rest) a r ≡ r q
     judge-refused q e = judge-append (fit_checks w p n) rest a r ∙ unfit-judge w p n q e (judge rest a r) r
 
-    pub judge-fitted : (h : Header) → fit_admit_of w p n ≡ Admitted-as-Is h → judge (fit_checks w p n ++ rest) a r ≡ judge rest a r
+    pub judge-fitted : (h : Header) → fit_admit_of w p n ≡ Ok h → judge (fit_checks w p n ++ rest) a r ≡ judge rest a r
     judge-fitted h e = judge-append (fit_checks w p n) rest a r ∙ fitted-judge w p n h e (judge rest a r) r

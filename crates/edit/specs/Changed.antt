@@ -1,5 +1,5 @@
 -- The neighbours of a slot by their suffixes, and a key change on a page that is fit.
-use Rattle.std.specs.Prelude.{ℕ, ◌+◌, ◌-◌, ◌<◌, Bool, true, List, [], ◌∷◌, leb, eqb, length}
+use Rattle.std.specs.Prelude.{ℕ, ◌+◌, ◌-◌, ◌<◌, Bool, true, List, [], ◌∷◌, leb, eqb, length, Result, Ok, Err, ⊤}
 use Rattle.keys.specs.Choice.{pick, both}
 use Rattle.paper.specs.Lists.{less}
 use Rattle.paper.specs.Page.{slot_of, suffix_of, frame_of}
@@ -9,9 +9,8 @@ use Rattle.paper.specs.Edits.{key_changed}
 use Rattle.paper.specs.Searches.{probe_suffix}
 use Rattle.paper.specs.Calls.{prefix_held, inside_fences, slot_there, between, room_for_key}
 use Rattle.paper.specs.declared.refusal.Refusal.TheVariants.{Neighbours, NoRoom}
-use Rattle.paper.specs.declared.answers.Edited.{Edited}
-use Rattle.paper.specs.declared.answers.Edited.TheVariants.{Done, Refused as Edited-as-Refused}
 use Rattle.search.specs.Fence.{LongLies}
+use Rattle.paper.specs.declared.refusal.Refusal.{Refusal}
 
 -- the long suffixes of the first n slots lie within the page
 abbrev pub Lying : List ℕ → ℕ → Type 0
@@ -37,8 +36,8 @@ change_tests w p i k =
     ∷ check (room_for_key w p i (probe_suffix (frame_of p) k)) NoRoom
     ∷ []
 
-unfoldable pub change_with : ℕ → List ℕ → ℕ → List ℕ → Edited
-change_with w p i k = judge (change_tests w p i k) Done Edited-as-Refused
+unfoldable pub change_with : ℕ → List ℕ → ℕ → List ℕ → Result ⊤ Refusal
+change_with w p i k = judge (change_tests w p i k) (Ok tt) Err
 
 unfoldable pub page_with : ℕ → List ℕ → ℕ → List ℕ → List ℕ
 page_with w p i k = judge (change_tests w p i k) (key_changed w p i (probe_suffix (frame_of p) k)) (λ r. p)

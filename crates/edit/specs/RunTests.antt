@@ -1,5 +1,5 @@
 -- Run copy: what its tests ask of both pages, and the tests over slots where code reads them, from slot j on.
-use Rattle.std.specs.Prelude.{◌≡◌, Bool, true, List, [], ◌∷◌, ◌++◌, ℕ, zero, suc, ◌+◌, ◌-◌, ◌*◌, ◌≤◌, ◌<◌, min, leb, eqb, length, take}
+use Rattle.std.specs.Prelude.{◌≡◌, Bool, true, List, [], ◌∷◌, ◌++◌, ℕ, zero, suc, ◌+◌, ◌-◌, ◌*◌, ◌≤◌, ◌<◌, min, leb, eqb, length, take, Result, Ok, Err, ⊤}
 use Rattle.keys.specs.Choice.{pick}
 use Rattle.keys.specs.Keys.{same_list}
 use Rattle.paper.specs.Lists.{less}
@@ -11,9 +11,8 @@ use Rattle.paper.specs.Edits.{run_copied}
 use Rattle.paper.specs.Calls.{key_at, prefix_held, inside_fences, run, entry_checks, above_last, need_of_all}
 use Rattle.paper.specs.declared.page.Header.{Header}
 use Rattle.paper.specs.declared.refusal.Refusal.TheVariants.{SlotNumber, Neighbours, NoRoom}
-use Rattle.paper.specs.declared.answers.Edited.{Edited}
-use Rattle.paper.specs.declared.answers.Edited.TheVariants.{Done, Refused as Edited-as-Refused}
 use Rattle.search.specs.Fence.{LongLies}
+use Rattle.paper.specs.declared.refusal.Refusal.{Refusal}
 
 -- ---- the keys of the page q, whose prefix has l bytes, can be read
 pub record Shown (q : List ℕ) (l : ℕ) : Type 0 where
@@ -36,14 +35,14 @@ pub record Meeting (p : List ℕ) (h : Header) (x : List ℕ) (c : ℕ) (alike :
   pub alikeness : alike ≡ same_list (take c x) (take c (prefix_of p h.prefix_len))
 
 -- ---- 8 and 9 for one key
-unfoldable pub standing : List ℕ → List ℕ → Edited
-standing p k = judge (prefix_held p k ∷ inside_fences p k ∷ []) Done Edited-as-Refused
+unfoldable pub standing : List ℕ → List ℕ → Result ⊤ Refusal
+standing p k = judge (prefix_held p k ∷ inside_fences p k ∷ []) (Ok tt) Err
 
 -- "then entry by entry 8, 9": n entries of q, from slot j on
-unfoldable pub standing_from : List ℕ → List ℕ → ℕ → ℕ → Edited
-standing_from p q j zero = Done
+unfoldable pub standing_from : List ℕ → List ℕ → ℕ → ℕ → Result ⊤ Refusal
+standing_from p q j zero = (Ok tt)
 standing_from p q j (suc n) =
-    judge (prefix_held p (key_at q (slot_of q j)) ∷ inside_fences p (key_at q (slot_of q j)) ∷ []) (standing_from p q (j + 1) n) Edited-as-Refused
+    judge (prefix_held p (key_at q (slot_of q j)) ∷ inside_fences p (key_at q (slot_of q j)) ∷ []) (standing_from p q (j + 1) n) Err
 
 -- "then 12 for the first entry against the destination's last": n is the destination's count
 unfoldable pub passes_last : List ℕ → ℕ → List ℕ → Bool
@@ -63,8 +62,8 @@ run_tests w p q a n =
     ∷ check (leb (need_of_all w p (run w q a n)) (free (numbers_of p))) NoRoom
     ∷ []
 
-unfoldable pub run_judged : ℕ → List ℕ → List ℕ → ℕ → ℕ → Edited
-run_judged w p q a n = judge (run_tests w p q a n) Done Edited-as-Refused
+unfoldable pub run_judged : ℕ → List ℕ → List ℕ → ℕ → ℕ → Result ⊤ Refusal
+run_judged w p q a n = judge (run_tests w p q a n) (Ok tt) Err
 
 unfoldable pub run_written : ℕ → List ℕ → List ℕ → ℕ → ℕ → List ℕ
 run_written w p q a n = judge (run_tests w p q a n) (run_copied w p (run w q a n)) (λ r. p)

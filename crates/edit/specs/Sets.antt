@@ -1,5 +1,5 @@
 -- Set value on a page that is fit.
-use Rattle.std.specs.Prelude.{ℕ, false, not, List, [], ◌∷◌, eqb}
+use Rattle.std.specs.Prelude.{ℕ, false, not, List, [], ◌∷◌, eqb, Result, Ok, Err}
 use Rattle.octets.specs.Bytes.{le}
 use Rattle.keys.specs.Choice.{pick, both}
 use Rattle.paper.specs.Lists.{all, differ}
@@ -11,10 +11,6 @@ use Rattle.paper.specs.Searches.{scan}
 use Rattle.paper.specs.Calls.{fits_width, prefix_held, stored_value}
 use Rattle.paper.specs.declared.refusal.Refusal.{Refusal}
 use Rattle.paper.specs.declared.refusal.Refusal.TheVariants.{ValueRange, NotFound, OtherValue}
-use Rattle.paper.specs.declared.answers.Replaced.{Replaced}
-use Rattle.paper.specs.declared.answers.Replaced.TheVariants.{Old, Refused as Replaced-as-Refused}
-use Rattle.edit.specs.declared.set.Held.{Held}
-use Rattle.edit.specs.declared.set.Held.TheVariants.{At as Held-as-At, Refused as Held-as-Refused}
 
 -- 7, 8, 17, 18
 abbrev pub set_tests : ℕ → List ℕ → List ℕ → ℕ → ℕ → List Check
@@ -26,20 +22,16 @@ set_tests w p k expected new =
     ∷ []
 
 -- the slot whose value is replaced, or the first of them that does not hold
-unfoldable pub held_with : ℕ → List ℕ → List ℕ → ℕ → ℕ → Held
-held_with w p k expected new = judge (set_tests w p k expected new) (Held-as-At (scan false k (listing w p))) Held-as-Refused
-
-unfoldable pub why_not_held : Held → Refusal
-why_not_held (Held-as-At i) = NotFound
-why_not_held (Held-as-Refused r) = r
+unfoldable pub held_with : ℕ → List ℕ → List ℕ → ℕ → ℕ → Result ℕ Refusal
+held_with w p k expected new = judge (set_tests w p k expected new) (Ok (scan false k (listing w p))) Err
 
 -- 18 of slot i
-unfoldable pub held_at : ℕ → List ℕ → ℕ → ℕ → Held
-held_at w p i expected = let v = le w p (value_at (slot_of p i)) in pick (eqb v expected) (Held-as-At i) (Held-as-Refused (OtherValue v))
+unfoldable pub held_at : ℕ → List ℕ → ℕ → ℕ → Result ℕ Refusal
+held_at w p i expected = let v = le w p (value_at (slot_of p i)) in pick (eqb v expected) (Ok i) (Err (OtherValue v))
 
 -- the old value, and the page
-unfoldable pub set_with : ℕ → List ℕ → List ℕ → ℕ → ℕ → Replaced
-set_with w p k expected new = judge (set_tests w p k expected new) (Old (stored_value w p k)) Replaced-as-Refused
+unfoldable pub set_with : ℕ → List ℕ → List ℕ → ℕ → ℕ → Result ℕ Refusal
+set_with w p k expected new = judge (set_tests w p k expected new) (Ok (stored_value w p k)) Err
 
 unfoldable pub value_set_with : ℕ → List ℕ → List ℕ → ℕ → ℕ → List ℕ
 value_set_with w p k expected new = judge (set_tests w p k expected new) (value_set w p (scan false k (listing w p)) new) (λ r. p)

@@ -11,7 +11,6 @@ use crate::fences::Fences;
 use keys::shared;
 use node::{key, space};
 use octets::number;
-use paper::answers::Edited;
 use paper::page::{Header, Slot};
 use paper::refusal::Refusal;
 
@@ -143,26 +142,26 @@ pub fn begin(
     lower_value: u64,
     upper: &[u8],
     flag: bool,
-) -> Edited
+) -> Result<(), Refusal>
     ensures value { result ≡ begin_of p.old (given height timestamp lower.now lower_value upper.now flag) }
     ensures p_after { p.new ≡ begin_page p.old (given height timestamp lower.now lower_value upper.now flag) }
 {
     if p.len() != 16384 {
-        return Edited::Refused(Refusal::PageLength);
+        return Err(Refusal::PageLength);
     }
     if 65535 < lower.len() {
-        return Edited::Refused(Refusal::KeyLength);
+        return Err(Refusal::KeyLength);
     }
     if 65535 < upper.len() {
-        return Edited::Refused(Refusal::KeyLength);
+        return Err(Refusal::KeyLength);
     }
     if !in_order(lower, upper) {
-        return Edited::Refused(Refusal::FenceOrder);
+        return Err(Refusal::FenceOrder);
     }
     let n = shared::common_prefix_len(lower, upper);
     if 16256 < space::fence_bytes(n, lower.len() - n, upper.len() - n) {
-        return Edited::Refused(Refusal::NoRoom);
+        return Err(Refusal::NoRoom);
     }
     begin_at(p, height, timestamp, lower, lower_value, upper, flag, n);
-    Edited::Done
+    Ok(())
 }

@@ -6,9 +6,7 @@ ghost use Rattle.paper.specs.Calls.{is_width, room_for_key, change_of, change_pa
 ghost use Rattle.edit.specs.Changed.{change_with, page_with};
 
 use crate::neighbours;
-use node::admit::Admitted;
-use node::{admit, header};
-use paper::answers::Edited;
+use node::header;
 use paper::page::Header;
 use paper::refusal::Refusal;
 use search::{fence, probe};
@@ -27,53 +25,47 @@ fn has_room(p: &[u8], h: Header, width: u8, i: usize, suffix: &[u8]) -> bool
 }
 
 // Whether slot `i` of a page that is fit and has this header may take the key. Refuses 8, 9, 10, 12, 13.
-fn judge(p: &[u8], h: Header, width: u8, i: usize, key: &[u8]) -> Edited
+fn judge(p: &[u8], h: Header, width: u8, i: usize, key: &[u8]) -> Result<(), Refusal>
     requires { (length p.now ≡ 16384) × (fit_of width p.now ≡ 0) × (h ≡ header_of p.now) }
     ensures { result ≡ change_with width p.now i key.now }
 {
     if probe::class(p, h.prefix_len, key) != 1 {
-        return Edited::Refused(Refusal::Prefix);
+        return Err(Refusal::Prefix);
     }
     let suffix = probe::suffix(p, key);
     if !fence::inside(p, suffix) {
-        return Edited::Refused(Refusal::OutsideFences);
+        return Err(Refusal::OutsideFences);
     }
     if (h.count as usize) <= i {
-        return Edited::Refused(Refusal::SlotNumber);
+        return Err(Refusal::SlotNumber);
     }
     if !neighbours::between(p, h.count, i, suffix) {
-        return Edited::Refused(Refusal::Neighbours);
+        return Err(Refusal::Neighbours);
     }
     if !has_room(p, h, width, i, suffix) {
-        return Edited::Refused(Refusal::NoRoom);
+        return Err(Refusal::NoRoom);
     }
-    Edited::Done
+    Ok(())
 }
 
 // The call on a page that is fit and has this header: judged, then written.
-fn change_fit(p: &mut [u8], h: Header, width: u8, i: usize, key: &[u8]) -> Edited
+fn change_fit(p: &mut [u8], h: Header, width: u8, i: usize, key: &[u8]) -> Result<(), Refusal>
     requires { (length p.old ≡ 16384) × (is_width width ≡ true) × (fit_of width p.old ≡ 0) × (h ≡ header_of p.old) × (length key.now ≤ 65535) }
     ensures value { result ≡ change_with width p.old i key.now }
     ensures p_after { p.new ≡ page_with width p.old i key.now }
 {
-    let judged = judge(p, h, width, i, key);
-    let Edited::Done = judged else {
-        return judged;
-    };
+    judge(p, h, width, i, key)?;
     let suffix = probe::suffix(p, key);
     change::change_at(p, h, width, i, suffix);
-    Edited::Done
+    Ok(())
 }
 
 // Gives slot `i` another key and keeps its value; the same key again is accepted. Refuses 1, 2, 3, 5, 8, 9, 10, 12, 13, and a
 // refusal leaves the page as it was.
-pub fn change_key(p: &mut [u8], width: u8, i: usize, key: &[u8]) -> Edited
+pub fn change_key(p: &mut [u8], width: u8, i: usize, key: &[u8]) -> Result<(), Refusal>
     ensures value { result ≡ change_of width p.old i key.now }
     ensures p_after { p.new ≡ change_page width p.old i key.now }
 {
-    let a = fit::admit_fit(p, width, key.len());
-    let Admitted::Is(h) = a else {
-        return Edited::Refused(admit::why_not(a));
-    };
+    let h = fit::admit_fit(p, width, key.len())?;
     change_fit(p, h, width, i, key)
 }

@@ -10,9 +10,7 @@ ghost use Rattle.edit.specs.RunTests.{Shown, Fenced, Meeting, standing, standing
 
 use crate::cut;
 use keys::shared;
-use node::admit::Admitted;
 use node::{admit, header, key, space};
-use paper::answers::Edited;
 use paper::page::{Header, Slot};
 use paper::refusal::Refusal;
 use verdict::fit;
@@ -27,7 +25,7 @@ fn slot_stands(
     prefix: &[u8],
     cut: usize,
     alike: bool,
-) -> Edited
+) -> Result<(), Refusal>
     requires { (Fenced p.now h) × (Meeting p.now h prefix.now cut alike) × (LongLies (length q.now) s) }
     ensures { result ≡ standing p.now (prefix.now ++ suffix_of q.now s) }
 {
@@ -50,7 +48,7 @@ fn stand_from(
     alike: bool,
     a: usize,
     n: usize,
-) -> Edited
+) -> Result<(), Refusal>
     requires { (Fenced p.now h) × (Meeting p.now h prefix.now cut alike) × (prefix.now ≡ (frame_of q.now).prefix) × (Shown q.now (frame_of q.now).prefix_len) × (a + n ≤ (numbers_of q.now).count) }
     ensures { result ≡ standing_from p.now q.now a n }
 {
@@ -58,17 +56,21 @@ fn stand_from(
     let mut j = a;
     while j < end {
         let s = header::read_slot(q, 96 + 8 * j);
-        let e = slot_stands(p, h, q, s, prefix, cut, alike);
-        let Edited::Done = e else {
-            return e;
-        };
+        slot_stands(p, h, q, s, prefix, cut, alike)?;
         j += 1;
     }
-    Edited::Done
+    Ok(())
 }
 
 // The same: both pages' prefixes are compared once, as far as the shorter goes.
-fn entries_stand(p: &[u8], h: Header, q: &[u8], prefix_len: u16, a: usize, n: usize) -> Edited
+fn entries_stand(
+    p: &[u8],
+    h: Header,
+    q: &[u8],
+    prefix_len: u16,
+    a: usize,
+    n: usize,
+) -> Result<(), Refusal>
     requires { (Fenced p.now h) × (Shown q.now prefix_len) × (a + n ≤ (numbers_of q.now).count) }
     ensures { result ≡ standing_from p.now q.now a n }
 {
@@ -148,71 +150,75 @@ fn entry_need(width: u8, gone: u16, q: &[u8], prefix_len: u16, j: usize) -> usiz
 }
 
 // 10, 8, 9, 12 and 13 in this order, of two pages that are fit and have these headers.
-fn judge_run(p: &[u8], h: Header, q: &[u8], g: Header, width: u8, a: usize, n: usize) -> Edited
+fn judge_run(
+    p: &[u8],
+    h: Header,
+    q: &[u8],
+    g: Header,
+    width: u8,
+    a: usize,
+    n: usize,
+) -> Result<(), Refusal>
     requires { (Fenced p.now h) × (Shown q.now g.prefix_len) × (g ≡ header_of q.now) × (h.start ≤ h.end) }
     ensures { result ≡ run_judged width p.now q.now a n }
 {
     let count = g.count as usize;
     if count < a {
-        return Edited::Refused(Refusal::SlotNumber);
+        return Err(Refusal::SlotNumber);
     }
     if count - a < n {
-        return Edited::Refused(Refusal::SlotNumber);
+        return Err(Refusal::SlotNumber);
     }
     if n == 0 {
-        return Edited::Done;
+        return Ok(());
     }
-    let e = entries_stand(p, h, q, g.prefix_len, a, n);
-    let Edited::Done = e else {
-        return e;
-    };
+    entries_stand(p, h, q, g.prefix_len, a, n)?;
     if !above_last(p, h, q, g.prefix_len, a) {
-        return Edited::Refused(Refusal::Neighbours);
+        return Err(Refusal::Neighbours);
     }
     let free = (h.end as usize) - (h.start as usize);
     if !run_fits(free, width, h.prefix_len, q, g.prefix_len, a, n) {
-        return Edited::Refused(Refusal::NoRoom);
+        return Err(Refusal::NoRoom);
     }
-    Edited::Done
+    Ok(())
 }
 
 // The same two pages: judged, and then the entries are written.
-fn copy_fit(p: &mut [u8], h: Header, q: &[u8], g: Header, width: u8, a: usize, n: usize) -> Edited
+fn copy_fit(
+    p: &mut [u8],
+    h: Header,
+    q: &[u8],
+    g: Header,
+    width: u8,
+    a: usize,
+    n: usize,
+) -> Result<(), Refusal>
     requires p_len { (length p.old ≡ 16384) × (fit_of width p.old ≡ 0) × (h ≡ header_of p.old) }
     requires q_len { (length q.now ≡ 16384) × (fit_of width q.now ≡ 0) × (g ≡ header_of q.now) × (is_width width ≡ true) }
     ensures value { result ≡ run_judged width p.old q.now a n }
     ensures p_after { p.new ≡ run_written width p.old q.now a n }
 {
-    let e = judge_run(p, h, q, g, width, a, n);
-    let Edited::Done = e else {
-        return e;
-    };
+    judge_run(p, h, q, g, width, a, n)?;
     copy::copy_run(p, h, width, q, g.prefix_len, a, n);
-    Edited::Done
+    Ok(())
 }
 
 // Appends entries `a` to `a + n` of the page `q` to the page `p`, their keys cut anew under `p`'s prefix. Refuses 1, 2, 5 (`p` before `q`), 10,
 // then entry by entry 8, 9, then 12, 13; a refusal leaves `p` as it was.
-pub fn copy_run(p: &mut [u8], q: &[u8], width: u8, a: usize, n: usize) -> Edited
+pub fn copy_run(p: &mut [u8], q: &[u8], width: u8, a: usize, n: usize) -> Result<(), Refusal>
     ensures value { result ≡ run_of width p.old q.now a n }
     ensures p_after { p.new ≡ run_page width p.old q.now a n }
 {
     if p.len() != 16384 {
-        return Edited::Refused(Refusal::PageLength);
+        return Err(Refusal::PageLength);
     }
     if q.len() != 16384 {
-        return Edited::Refused(Refusal::PageLength);
+        return Err(Refusal::PageLength);
     }
     if !admit::known_width(width) {
-        return Edited::Refused(Refusal::Width);
+        return Err(Refusal::Width);
     }
-    let d = fit::fit_header(p, width);
-    let Admitted::Is(h) = d else {
-        return Edited::Refused(admit::why_not(d));
-    };
-    let s = fit::fit_header(q, width);
-    let Admitted::Is(g) = s else {
-        return Edited::Refused(admit::why_not(s));
-    };
+    let h = fit::fit_header(p, width)?;
+    let g = fit::fit_header(q, width)?;
     copy_fit(p, h, q, g, width, a, n)
 }

@@ -6,15 +6,14 @@ ghost use Rattle.paper.specs.Page.{suffix_of};
 ghost use Rattle.search.specs.Fence.{LongLies, inside_by};
 ghost use Rattle.edit.specs.RunTests.{Fenced, Meeting, standing};
 
-use keys::order::Order;
 use keys::shared;
 use node::key;
-use paper::answers::Edited;
 use paper::page::{Header, Slot};
 use paper::refusal::Refusal;
+use std::cmp::Ordering;
 
 // How a key in two pieces stands to another key.
-fn order_two(lead: &[u8], rest: &[u8], other: &[u8]) -> Order
+fn order_two(lead: &[u8], rest: &[u8], other: &[u8]) -> Ordering
     ensures { result ≡ order (lead.now ++ rest.now) other.now }
 {
     let n = shared::common_prefix_len(lead, other);
@@ -25,7 +24,7 @@ fn order_two(lead: &[u8], rest: &[u8], other: &[u8]) -> Order
 }
 
 // How it stands to the suffix of a slot: a short one's bytes are its head's.
-fn order_slot(p: &[u8], s: Slot, lead: &[u8], rest: &[u8]) -> Order
+fn order_slot(p: &[u8], s: Slot, lead: &[u8], rest: &[u8]) -> Ordering
     requires { LongLies (length p.now) s }
     ensures { result ≡ order (lead.now ++ rest.now) (suffix_of p.now s) }
 {
@@ -39,15 +38,12 @@ fn order_slot(p: &[u8], s: Slot, lead: &[u8], rest: &[u8]) -> Order
 }
 
 // Whether it is below the suffix of a slot.
+#[tactic(auto, unfolding(paper::specs::Lists::less))]
 fn below_slot(p: &[u8], s: Slot, lead: &[u8], rest: &[u8]) -> bool
     requires { LongLies (length p.now) s }
     ensures { result ≡ less (lead.now ++ rest.now) (suffix_of p.now s) }
 {
-    match order_slot(p, s, lead, rest) {
-        Order::Below => true,
-        Order::Same => false,
-        Order::Above => false,
-    }
+    order_slot(p, s, lead, rest).is_lt()
 }
 
 // Whether it is above the suffix of a slot.
@@ -55,11 +51,7 @@ pub(crate) fn above_slot(p: &[u8], s: Slot, lead: &[u8], rest: &[u8]) -> bool
     requires { LongLies (length p.now) s }
     ensures { result ≡ less (suffix_of p.now s) (lead.now ++ rest.now) }
 {
-    match order_slot(p, s, lead, rest) {
-        Order::Below => false,
-        Order::Same => false,
-        Order::Above => true,
-    }
+    order_slot(p, s, lead, rest).is_gt()
 }
 
 // Whether it lies inside the fences of a page with this header.
@@ -85,20 +77,20 @@ pub(crate) fn stands(
     cut: usize,
     alike: bool,
     suffix: &[u8],
-) -> Edited
+) -> Result<(), Refusal>
     requires { (Fenced p.now h) × (Meeting p.now h prefix.now cut alike) }
     ensures { result ≡ standing p.now (prefix.now ++ suffix.now) }
 {
     if !alike {
-        return Edited::Refused(Refusal::Prefix);
+        return Err(Refusal::Prefix);
     }
     let whole = key::prefix(p, h.prefix_len);
     let wanted = &whole[cut..];
     if !shared::begins_with(suffix, wanted) {
-        return Edited::Refused(Refusal::Prefix);
+        return Err(Refusal::Prefix);
     }
     if !inside_two(p, h, &prefix[cut..], &suffix[wanted.len()..]) {
-        return Edited::Refused(Refusal::OutsideFences);
+        return Err(Refusal::OutsideFences);
     }
-    Edited::Done
+    Ok(())
 }

@@ -15,17 +15,15 @@ use Rattle.paper.specs.Calls.{insert_of, insert_page}
 use Rattle.paper.specs.Demand.{page_after}
 use Rattle.paper.specs.declared.page.Header.{Header}
 use Rattle.paper.specs.declared.refusal.Refusal.{Refusal}
-use Rattle.paper.specs.declared.answers.Filed.{Filed}
-use Rattle.paper.specs.declared.answers.Filed.TheVariants.{At as Filed-as-At, Refused as Filed-as-Refused}
-use Rattle.node.specs.declared.admit.Admitted.TheVariants.{Is as Admitted-as-Is, Refused as Admitted-as-Refused}
 use Rattle.verdict.specs.Fits.{fit_admit_of}
 use Rattle.verdict.proofs.Fitness.{fitted, fitted-judge, unfit-judge}
 use Rattle.edit.proofs.Inserted.{insert-refused}
-use Rattle.filing.specs.Batches.{record_at, records_from, records_of, holds_records, go_on, fold_from, fold_of, batch_of, is_filed, batch_page, first_length}
+use Rattle.filing.specs.Batches.{record_at, records_from, records_of, holds_records, go_on, fold_from, fold_of, batch_of, batch_page, first_length}
 use Rattle.filing.specs.Standing.{Standing}
-use Rattle.filing.specs.declared.batch.Batched.{Batched}
-use Rattle.filing.specs.declared.batch.Batched.TheVariants.{Filed as Batched-as-Filed, Refused as Batched-as-Refused, Cut}
+use Rattle.filing.specs.declared.batch.NotFiled.{NotFiled}
+use Rattle.filing.specs.declared.batch.NotFiled.TheVariants.{Refused, Cut}
 use Rattle.filing.proofs.Placed.{records-none, records-turn}
+use Rattle.std.specs.Prelude.{Result, Ok, Err, is_ok, not}
 
 -- ---- the record at place o, as it was read: n its key's length, x the key and v the value
 module _ (w : ℕ) (p b : List ℕ) (o n v : ℕ) (d : n ≡ le 4 b o) (e : v ≡ le 8 b (o + 4 + n)) where
@@ -36,7 +34,7 @@ module _ (w : ℕ) (p b : List ℕ) (o n v : ℕ) (d : n ≡ le 4 b o) (e : v �
   value_read : v ≡ (record_at b o).value
   value_read = e ∙ rw d
 
-  pub filed-read : (x : List ℕ) → x ≡ take (o + 4 + n - (o + 4)) (drop (o + 4) b) → (r : Filed) (q : List ℕ) → (r ≡ insert_of w p x v) × ((q ≡ insert_page w p x v) × Standing w q)
+  pub filed-read : (x : List ℕ) → x ≡ take (o + 4 + n - (o + 4)) (drop (o + 4) b) → (r : Result ℕ Refusal) (q : List ℕ) → (r ≡ insert_of w p x v) × ((q ≡ insert_page w p x v) × Standing w q)
       → (r ≡ insert_of w p (record_at b o).key (record_at b o).value) × ((q ≡ insert_page w p (record_at b o).key (record_at b o).value) × Standing w q)
   filed-read x k r q f = rw (← key-read, ← value_read, ← k) f
 
@@ -45,7 +43,7 @@ module _ (w : ℕ) (p b : List ℕ) (o : ℕ) where
   abbrev left : List Entry
   left = records_from (length b - o) b o
 
-  pub fold_done : (i : ℕ) → length b ≤ o → fold_from i w p left ≡ Batched-as-Filed i
+  pub fold_done : (i : ℕ) → length b ≤ o → fold_from i w p left ≡ Ok i
   unfolding fold_from
   fold_done i h = rw (records-none b (length b - o) o h)
 
@@ -54,8 +52,8 @@ module _ (w : ℕ) (p b : List ℕ) (o : ℕ) where
   page-done h = rw (records-none b (length b - o) o h)
 
   -- it is the i-th of all, and f is what its insert answered
-  pub fold-refused : o < length b → (i : ℕ) (f : Filed) → f ≡ insert_of w p (record_at b o).key (record_at b o).value → (q : Refusal) → f ≡ Filed-as-Refused q
-      → fold_from i w p left ≡ Batched-as-Refused i q
+  pub fold-refused : o < length b → (i : ℕ) (f : Result ℕ Refusal) → f ≡ insert_of w p (record_at b o).key (record_at b o).value → (q : Refusal) → f ≡ Err q
+      → fold_from i w p left ≡ Err (Refused i q)
   unfolding fold_from go_on
   fold-refused h i f a q e = rw (records-turn b o h (le 4 b o) refl, ← a, e)
 
@@ -68,15 +66,14 @@ module _ (w : ℕ) (p b : List ℕ) (o : ℕ) where
     unfolding page_after
     page-on = rw (records-turn b o h n e, d)
 
-    pub fold_on : (i : ℕ) (f : Filed) → f ≡ insert_of w p (record_at b o).key (record_at b o).value → (s : ℕ) → f ≡ Filed-as-At s
+    pub fold_on : (i : ℕ) (f : Result ℕ Refusal) → f ≡ insert_of w p (record_at b o).key (record_at b o).value → (s : ℕ) → f ≡ Ok s
         → fold_from i w p left ≡ fold_from (i + 1) w q next
     unfolding fold_from go_on
     fold_on i f a s m = rw (records-turn b o h n e, ← a, m, ← d)
 
 -- a refusal is not filed
-pub not_filed : (i : ℕ) (q : Refusal) {A : Type 0} → is_filed (Batched-as-Refused i q) ≡ true → A
-unfolding is_filed
-not_filed i q e = absurd (no e)
+pub not_filed : (f : NotFiled) {A : Type 0} → is_ok {T = ℕ} (Err f) ≡ true → A
+not_filed f e = absurd (no e)
   where
     no : false ≡ true → ⊥
     no d = let z : ◌≡◌ {A = ℕ} 0 1 = ap (λ (t : Bool). pick t 1 0) d in omega arith
@@ -85,43 +82,46 @@ not_filed i q e = absurd (no e)
 put_whole : (q p : List ℕ) → length q ≡ length p → put q 0 p ≡ p
 put_whole q p e = put_eq q 0 p (omega arith) ∙ rw (drop_of_length-le q {i = 0 + length p} (omega arith)) (append-nil p)
 
-module _ (r : Batched) (t : Bool) (c : t ≡ is_filed r) (p q m : List ℕ) where
-  pub left-filed : t ≡ true → (is_filed r ≡ true → q ≡ m) → q ≡ pick (is_filed r) m p
-  left-filed e k = let f = sym c ∙ e in k f ∙ rw f
+module _ (r : Result ℕ NotFiled) (t : Bool) (c : is_ok r ≡ not t) (p q m : List ℕ) where
+  pub left-filed : t ≡ false → (is_ok r ≡ true → q ≡ m) → q ≡ pick (is_ok r) m p
+  left-filed e k = let f : is_ok r ≡ true = c ∙ ap not e in k f ∙ rw f
 
   -- x is what was saved, over z
-  pub left-restored : t ≡ false → length q ≡ length p → (z x : List ℕ) → length z ≡ length p → (k : ℕ) → length p ≤ k → x ≡ put z 0 (take k p) → (y : List ℕ) → y ≡ put q 0 x
-      → y ≡ pick (is_filed r) m p
-  left-restored e l z x a k b d y n = let s = d ∙ ap (put z 0) (take_all k p b) ∙ put_whole z p a in n ∙ rw (s, put_whole q p l, ← c, e)
+  pub left-restored : t ≡ true → length q ≡ length p → (z x : List ℕ) → length z ≡ length p → (k : ℕ) → length p ≤ k → x ≡ put z 0 (take k p) → (y : List ℕ) → y ≡ put q 0 x
+      → y ≡ pick (is_ok r) m p
+  left-restored e l z x a k b d y n =
+      let s = d ∙ ap (put z 0) (take_all k p b) ∙ put_whole z p a in
+      let f : is_ok r ≡ false = c ∙ ap not e in
+      n ∙ rw (s, put_whole q p l, f)
 
 -- ---- the page's first tests, that of the first key's length among them
 module _ (w : ℕ) (p : List ℕ) where
-  refused-first : (es : List Entry) (q : Refusal) → fit_admit_of w p (first_length es) ≡ Admitted-as-Refused q → fold_of w p es ≡ Batched-as-Refused 0 q
+  refused-first : (es : List Entry) (q : Refusal) → fit_admit_of w p (first_length es) ≡ Err q → fold_of w p es ≡ Err (Refused 0 q)
   unfolding fold_of fold_from go_on first_length judge
-  refused-first [] q e = unfit-judge w p 0 q e (Batched-as-Filed 0) (Batched-as-Refused 0)
+  refused-first [] q e = unfit-judge w p 0 q e (Ok 0) (λ r. Err (Refused 0 r))
   refused-first (x ∷ es) q e = rw (← (insert-refused w p x.key x.value q e).0)
 
-  fitted-first : (es : List Entry) (h : Header) → fit_admit_of w p (first_length es) ≡ Admitted-as-Is h → fold_of w p es ≡ fold_from 0 w p es
+  fitted-first : (es : List Entry) (h : Header) → fit_admit_of w p (first_length es) ≡ Ok h → fold_of w p es ≡ fold_from 0 w p es
   unfolding fold_of fold_from first_length judge
-  fitted-first [] h e = fitted-judge w p 0 h e (Batched-as-Filed 0) (Batched-as-Refused 0)
+  fitted-first [] h e = fitted-judge w p 0 h e (Ok 0) (λ r. Err (Refused 0 r))
   fitted-first (x ∷ es) h e = refl
 
-  pub standing : (n : ℕ) (h : Header) → fit_admit_of w p n ≡ Admitted-as-Is h → Standing w p
+  pub standing : (n : ℕ) (h : Header) → fit_admit_of w p n ≡ Ok h → Standing w p
   standing n h e = let F = fitted w p n h e in record { size = F.size; width = F.width; verdict = F.verdict }
 
   -- ---- the call; t says whether the buffer holds whole records, n is the first key's length
   module _ (b : List ℕ) (t : Bool) (c : t ≡ holds_records b) where
-    pub batch-cut : t ≡ false → (Cut ≡ batch_of w p b) × (p ≡ batch_page w p b)
-    unfolding batch_of batch_page is_filed
+    pub batch-cut : t ≡ false → (Err Cut ≡ batch_of w p b) × (p ≡ batch_page w p b)
+    unfolding batch_of batch_page
     batch-cut e = (rw (← c, e), rw (← c, e))
 
     module _ (whole : t ≡ true) (n : ℕ) (l : n ≡ first_length (records_of b)) where
-      pub batch-refused : (q : Refusal) → fit_admit_of w p n ≡ Admitted-as-Refused q → (Batched-as-Refused 0 q ≡ batch_of w p b) × (p ≡ batch_page w p b)
-      unfolding batch_of batch_page is_filed
+      pub batch-refused : (q : Refusal) → fit_admit_of w p n ≡ Err q → (Err (Refused 0 q) ≡ batch_of w p b) × (p ≡ batch_page w p b)
+      unfolding batch_of batch_page
       batch-refused q e = let f = refused-first (records_of b) q (rw l at e) in (rw (← c, whole, f), rw (← c, whole, f))
 
-      pub batch-fitted : (h : Header) → fit_admit_of w p n ≡ Admitted-as-Is h → (r : Batched) → r ≡ fold_from 0 w p (records_of b)
-          → (q : List ℕ) → q ≡ pick (is_filed r) (page_after w p (records_of b)) p → (r ≡ batch_of w p b) × (q ≡ batch_page w p b)
+      pub batch-fitted : (h : Header) → fit_admit_of w p n ≡ Ok h → (r : Result ℕ NotFiled) → r ≡ fold_from 0 w p (records_of b)
+          → (q : List ℕ) → q ≡ pick (is_ok r) (page_after w p (records_of b)) p → (r ≡ batch_of w p b) × (q ≡ batch_page w p b)
       unfolding batch_of batch_page
       batch-fitted h e r d q m =
           let f = fitted-first (records_of b) h (rw l at e) in

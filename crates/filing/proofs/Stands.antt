@@ -18,17 +18,16 @@ use Rattle.paper.specs.Refusals.{Check, judge}
 use Rattle.paper.specs.Searches.{probe_suffix}
 use Rattle.paper.specs.Calls.{is_width, fits_width, has_prefix, insert_checks, insert_of, insert_page}
 use Rattle.paper.specs.declared.refusal.Refusal.TheVariants.{KeyLength}
-use Rattle.paper.specs.declared.answers.Filed.{Filed}
-use Rattle.paper.specs.declared.answers.Filed.TheVariants.{Refused as Filed-as-Refused}
 use Rattle.paper.proofs.Lists.{both_parts}
 use Rattle.paper.proofs.Holding.{all_hold, Hold}
 use Rattle.paper.proofs.Fit.{fit, fit_back}
 use Rattle.paper.proofs.Filing.{Takes, size-after, fit-after}
-use Rattle.node.specs.declared.admit.Admitted.TheVariants.{Is as Admitted-as-Is}
 use Rattle.verdict.specs.Fits.{fit_admit_of}
 use Rattle.edit.specs.Inserts.{insert_with, inserted_with}
 use Rattle.edit.proofs.Inserted.{insert-fitted}
 use Rattle.filing.specs.Standing.{Standing}
+use Rattle.std.specs.Prelude.{Result, Ok, Err}
+use Rattle.paper.specs.declared.refusal.Refusal.{Refusal}
 
 -- all tests hold and a is given, or b whatever the refusal
 judge-pick : {A : Type 0} (cs : List Check) (a b : A) → judge cs a (λ r. b) ≡ pick (all_hold cs) a b
@@ -85,15 +84,15 @@ module _ (w : ℕ) (p k : List ℕ) (v : ℕ) (S : Standing w p) where
       go false e = rw (stays e) S
 
   -- ---- the call
-  pub one-long : 65535 < length k → (Filed-as-Refused KeyLength ≡ insert_of w p k v) × ((p ≡ insert_page w p k v) × Standing w p)
+  pub one-long : 65535 < length k → (Err KeyLength ≡ insert_of w p k v) × ((p ≡ insert_page w p k v) × Standing w p)
   unfolding insert_of insert_page insert_checks judge
   one-long l = let x1 = eq-eqb (length p) 16384 S.size in let x3 = lt-leb (length k) 65535 l in (rw (x1, S.width, x3), (rw (x1, S.width, x3), S))
 
-  admitted : length k ≤ 65535 → fit_admit_of w p (length k) ≡ Admitted-as-Is (header_of p)
+  admitted : length k ≤ 65535 → fit_admit_of w p (length k) ≡ Ok (header_of p)
   unfolding fit_admit_of judge
   admitted l = let x1 = eq-eqb (length p) 16384 S.size in rw (x1, S.width, le-leb (length k) 65535 l, S.verdict)
 
-  pub one-filed : IsBytes p → IsBytes k → length k ≤ 65535 → (r : Filed) → r ≡ insert_with w p k v → (q : List ℕ) → q ≡ inserted_with w p k v
+  pub one-filed : IsBytes p → IsBytes k → length k ≤ 65535 → (r : Result ℕ Refusal) → r ≡ insert_with w p k v → (q : List ℕ) → q ≡ inserted_with w p k v
       → (r ≡ insert_of w p k v) × ((q ≡ insert_page w p k v) × Standing w q)
   one-filed b hk l r e q d =
       let call = insert-fitted w p k v (header_of p) (admitted l) in

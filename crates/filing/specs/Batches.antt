@@ -1,15 +1,14 @@
 -- A batch: the records that a buffer holds, and the fold of single inserts over them.
-use Rattle.std.specs.Prelude.{ℕ, zero, suc, ◌+◌, Bool, true, false, List, [], ◌∷◌, eqb, ltb, length}
+use Rattle.std.specs.Prelude.{ℕ, zero, suc, ◌+◌, Bool, List, [], ◌∷◌, eqb, ltb, length, Result, Ok, Err, is_ok}
 use Rattle.octets.specs.Bytes.{le, part}
 use Rattle.keys.specs.Choice.{pick}
 use Rattle.paper.specs.Listing.{Entry}
 use Rattle.paper.specs.Refusals.{judge}
 use Rattle.paper.specs.Calls.{page_length, width_known, is_fit, insert_of, insert_page}
 use Rattle.paper.specs.Demand.{page_after}
-use Rattle.paper.specs.declared.answers.Filed.{Filed}
-use Rattle.paper.specs.declared.answers.Filed.TheVariants.{At as Filed-as-At, Refused as Filed-as-Refused}
-use Rattle.filing.specs.declared.batch.Batched.{Batched}
-use Rattle.filing.specs.declared.batch.Batched.TheVariants.{Filed as Batched-as-Filed, Refused as Batched-as-Refused, Cut}
+use Rattle.filing.specs.declared.batch.NotFiled.{NotFiled}
+use Rattle.filing.specs.declared.batch.NotFiled.TheVariants.{Refused, Cut}
+use Rattle.paper.specs.declared.refusal.Refusal.{Refusal}
 
 -- ---- "records, each u32 key length, key, u64 value": the record at place o of the buffer b, and where it ends
 abbrev pub record_at : List ℕ → ℕ → Entry
@@ -36,31 +35,26 @@ unfoldable pub holds_records : List ℕ → Bool
 holds_records b = eqb (end_from (length b) b 0) (length b)
 
 -- ---- the fold of single inserts, from place i on: the number of records, or the first insert refused and its place
-unfoldable pub go_on : ℕ → Filed → Batched → Batched
-go_on i (Filed-as-At s) rest = rest
-go_on i (Filed-as-Refused r) rest = Batched-as-Refused i r
+unfoldable pub go_on : ℕ → Result ℕ Refusal → Result ℕ NotFiled → Result ℕ NotFiled
+go_on i (Ok s) rest = rest
+go_on i (Err r) rest = Err (Refused i r)
 
-unfoldable pub fold_from : ℕ → ℕ → List ℕ → List Entry → Batched
-fold_from i w p [] = Batched-as-Filed i
+unfoldable pub fold_from : ℕ → ℕ → List ℕ → List Entry → Result ℕ NotFiled
+fold_from i w p [] = Ok i
 fold_from i w p (e ∷ es) = go_on i (insert_of w p e.key e.value) (fold_from (i + 1) w (insert_page w p e.key e.value) es)
 
 -- "an empty batch still gives 1, 2, 5"
-unfoldable pub fold_of : ℕ → List ℕ → List Entry → Batched
-fold_of w p [] = judge (page_length p ∷ width_known w ∷ is_fit w p ∷ []) (Batched-as-Filed 0) (Batched-as-Refused 0)
+unfoldable pub fold_of : ℕ → List ℕ → List Entry → Result ℕ NotFiled
+fold_of w p [] = judge (page_length p ∷ width_known w ∷ is_fit w p ∷ []) (Ok 0) (λ r. Err (Refused 0 r))
 fold_of w p (e ∷ es) = fold_from 0 w p (e ∷ es)
 
 -- ---- the call: a buffer that ends inside a record is cut, whatever the page
-unfoldable pub batch_of : ℕ → List ℕ → List ℕ → Batched
-batch_of w p b = pick (holds_records b) (fold_of w p (records_of b)) Cut
-
-unfoldable pub is_filed : Batched → Bool
-is_filed (Batched-as-Filed n) = true
-is_filed (Batched-as-Refused i r) = false
-is_filed Cut = false
+unfoldable pub batch_of : ℕ → List ℕ → List ℕ → Result ℕ NotFiled
+batch_of w p b = pick (holds_records b) (fold_of w p (records_of b)) (Err Cut)
 
 -- the page that the inserts leave one after the other; "and then changes no byte, as every refused call"
 unfoldable pub batch_page : ℕ → List ℕ → List ℕ → List ℕ
-batch_page w p b = pick (is_filed (batch_of w p b)) (page_after w p (records_of b)) p
+batch_page w p b = pick (is_ok (batch_of w p b)) (page_after w p (records_of b)) p
 
 -- the length of the first record's key
 unfoldable pub first_length : List Entry → ℕ

@@ -1,18 +1,17 @@
 -- Demand 3 of the calls themselves: what a caller gets who files records one by one, or as a batch.
-use Rattle.std.specs.Prelude.{◌≡◌, ℕ, true, length}
+use Rattle.std.specs.Prelude.{Ok, ◌≡◌, ℕ, true, length, Result}
 use mathlib.Core.List.{List, [], ◌∷◌, map, Permᴰ}
 use Rattle.paper.specs.Lists.{all}
 use Rattle.paper.specs.Listing.{Entry, listing, file_all}
 use Rattle.paper.specs.Calls.{insert_of, insert_page}
 use Rattle.paper.specs.Demand.{is_accepted, Given, Demanded}
-use Rattle.paper.specs.declared.answers.Filed.{Filed}
 use Rattle.filing.specs.Batches.{records_of, holds_records, batch_of, batch_page}
-use Rattle.filing.specs.declared.batch.Batched.TheVariants.{Filed as Batched-as-Filed}
+use Rattle.paper.specs.declared.refusal.Refusal.{Refusal}
 
 -- a call of insert: the record handed to it, what it answered, and the page that it left
 pub record Step : Type 0 where
   pub entry : Entry
-  pub answer : Filed
+  pub answer : Result ℕ Refusal
   pub page : List ℕ
 
 -- it was made on page p: this is what `insert` ensures
@@ -43,4 +42,4 @@ DemandCalls =
 abbrev pub DemandBatch : Type 0
 DemandBatch =
     (w : ℕ) (p b : List ℕ) (es : List Entry) → Given w p es → holds_records b ≡ true → Permᴰ es (records_of b)
-    → (batch_of w p b ≡ Batched-as-Filed (length es)) × Demanded w p es (records_of b) (batch_page w p b) (file_all es (listing w p))
+    → (batch_of w p b ≡ Ok (length es)) × Demanded w p es (records_of b) (batch_page w p b) (file_all es (listing w p))

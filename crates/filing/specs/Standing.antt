@@ -2,18 +2,9 @@
 use Rattle.std.specs.Prelude.{◌≡◌, true, List, ℕ, length}
 use Rattle.paper.specs.Verdicts.{fit_of}
 use Rattle.paper.specs.Calls.{is_width}
-use Rattle.paper.specs.declared.refusal.Refusal.{Refusal}
-use Rattle.paper.specs.declared.refusal.Refusal.TheVariants.{NoRoom}
-use Rattle.paper.specs.declared.answers.Filed.{Filed}
-use Rattle.paper.specs.declared.answers.Filed.TheVariants.{At as Filed-as-At, Refused as Filed-as-Refused}
 
 -- 1, 2 and 5 hold of it
 pub record Standing (w : ℕ) (p : List ℕ) : Type 0 where
   pub size : length p ≡ 16384
   pub width : is_width w ≡ true
   pub verdict : fit_of w p ≡ 0
-
--- the refusal of an insert
-unfoldable pub why_not_filed : Filed → Refusal
-why_not_filed (Filed-as-At i) = NoRoom
-why_not_filed (Filed-as-Refused r) = r

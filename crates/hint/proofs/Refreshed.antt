@@ -31,3 +31,5 @@ module _ (p : List ℕ) (flag n : ℕ) where
   pub refresh-unused : in_use flag n ≡ false → p ≡ refresh_as flag n p
   unfolding refresh_as
   refresh-unused e = rw e
+
+pub ruleset refreshing = (used-many, refresh-used, refresh-unused)

@@ -18,9 +18,9 @@ use Rattle.paper.proofs.Halving.{first_hint-le}
 -- ---- from the last hint down: i + first_hint f (drop i hs) is the number of the first hint that passes, of those from i on
 module _ (f : ℕ → Bool) (hs : List ℕ) (i : ℕ) where
   -- there are none from i on
-  pub first-none : length hs ≤ i → i ≡ i + first_hint f (drop i hs)
+  pub first-none : length hs ≤ i → first_hint f (drop i hs) ≡ 0
   unfolding first_hint
-  first-none h = rw (drop_of_length-le hs h) (omega arith)
+  first-none h = rw (drop_of_length-le hs h)
 
   -- one hint more
   one_more : 0 < i → i ≤ length hs → drop (i - 1) hs ≡ get_or hs (i - 1) 0 ∷ drop i hs
@@ -38,11 +38,7 @@ module _ (f : ℕ → Bool) (hs : List ℕ) (i : ℕ) where
   unfolding first_hint
   first-later first z h e l = rw (one_more z h, first_hint, e) (omega arith)
 
-  -- those from 0 on are all
-  pub first_found : (first : ℕ) → i ≤ 0 → first ≡ i + first_hint f (drop i hs) → (first ≡ first_hint f hs) × (first ≤ length hs)
-  first_found first z l =
-      let none : i ≡ 0 = omega arith in
-      let e = rw none at l in (omega arith, omega (arith, first_hint-le f hs))
+pub ruleset hinted = (first-none, first-here, first-later)
 
 -- ---- windows
 -- up to eight windows lie within the slots

@@ -6,8 +6,10 @@ ghost use Rattle.hint.specs.Refresh.{refresh_as};
 
 use crate::hints;
 use octets::number;
+use std::array;
 
 // The head of slot `i`.
+#[tactic(auto, using(crate::proofs::Runs::heads))]
 fn slot_head(p: &[u8], i: usize) -> u32
     requires { 104 + 8 * i ≤ length p.now }
     ensures { result ≡ (slot_of p.now i).head }
@@ -20,20 +22,12 @@ pub fn fresh_hints(p: &[u8], count: u16) -> [u32; 8]
     requires { (1 ≤ count) × (96 + 8 * count ≤ length p.now) }
     ensures { result ≡ fresh count (λ i. (slot_of p.now i).head) }
 {
-    let window = (count as usize) / 9;
-    [
-        slot_head(p, window),
-        slot_head(p, 2 * window),
-        slot_head(p, 3 * window),
-        slot_head(p, 4 * window),
-        slot_head(p, 5 * window),
-        slot_head(p, 6 * window),
-        slot_head(p, 7 * window),
-        slot_head(p, 8 * window),
-    ]
+    let window = usize::from(count) / 9;
+    array::from_fn(|i| slot_head(p, (i + 1) * window))
 }
 
 // Fresh hints into the header where they are in use; else every byte stays.
+#[tactic(auto, using(crate::proofs::Refreshed::refreshing))]
 pub fn refresh(p: &mut [u8], flag: u8, count: u16)
     requires { 96 + 8 * count ≤ length p.old }
     ensures { p.new ≡ refresh_as flag count p.old }

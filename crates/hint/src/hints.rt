@@ -5,8 +5,10 @@ ghost use Rattle.paper.specs.Page.{hints_of};
 ghost use Rattle.paper.specs.Hints.{in_use, flat};
 
 use octets::number;
+use std::array;
 
 // Whether hints are in use on a page with this hints flag and this many entries.
+#[tactic(auto, unfolding(paper::specs::Hints::in_use))]
 pub fn in_use(flag: u8, count: u16) -> bool
     ensures { result ≡ in_use flag count }
 {
@@ -18,26 +20,16 @@ pub fn read_hints(p: &[u8]) -> [u32; 8]
     requires { 96 ≤ length p.now }
     ensures { result ≡ hints_of p.now }
 {
-    [
-        number::read_u32(p, 64),
-        number::read_u32(p, 68),
-        number::read_u32(p, 72),
-        number::read_u32(p, 76),
-        number::read_u32(p, 80),
-        number::read_u32(p, 84),
-        number::read_u32(p, 88),
-        number::read_u32(p, 92),
-    ]
+    array::from_fn(|i| number::read_u32(p, 64 + 4 * i))
 }
 
 // The eight hints into the header's bytes 64 to 95.
+#[tactic(auto, using(crate::proofs::Runs::writing))]
 pub fn write_hints(p: &mut [u8], hints: [u32; 8])
     requires { 96 ≤ length p.old }
     ensures { p.new ≡ put p.old 64 (flat hints) }
 {
-    let mut i = 0;
-    while i < 8 {
-        number::write_u32(p, 64 + 4 * i, hints[i]);
-        i += 1;
+    for (i, hint) in hints.iter().enumerate() {
+        number::write_u32(p, 64 + 4 * i, *hint);
     }
 }

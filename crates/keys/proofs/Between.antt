@@ -7,14 +7,14 @@ use Prim.Native.Nat.{ℕ, ◌≤◌, ◌<◌, min}
 use native.Mathlib.Omega.{arith}
 use lib.ListN.{take}
 use Rattle.keys.specs.Keys.{order, common}
-use Rattle.keys.specs.declared.order.Order.{Order}
-use Rattle.keys.specs.declared.order.Order.TheVariants.{Below, Same, Above}
 use Rattle.keys.proofs.Numbers.{below_above, by_number_below}
 use Rattle.keys.proofs.Orders.{order_same}
 use Rattle.keys.proofs.Prefixes.{common_eq, common_ne, common-le, common_self, common-take}
+use Rattle.std.specs.declared.cmp.Ordering.{Ordering}
+use Rattle.std.specs.declared.cmp.Ordering.TheVariants.{Less, Equal, Greater}
 
 -- three keys that rise
-common-rising : (a b c : List ℕ) → order a b ≡ Below → order b c ≡ Below → common a c ≡ min (common a b) (common b c)
+common-rising : (a b c : List ℕ) → order a b ≡ Less → order b c ≡ Less → common a c ≡ min (common a b) (common b c)
 unfolding order common
 common-rising [] b c e f = omega arith
 common-rising (x ∷ xs) [] c e f = below_above (sym e)
@@ -25,8 +25,8 @@ common-rising (x ∷ xs) (y ∷ ys) (z ∷ zs) e f =
     Goal : Type 0
     Goal = common (x ∷ xs) (z ∷ zs) ≡ min (common (x ∷ xs) (y ∷ ys)) (common (y ∷ ys) (z ∷ zs))
 
-    go : (x < y) ⊎ ((x ≡ y) × (order xs ys ≡ Below)) → (y < z) ⊎ ((y ≡ z) × (order ys zs ≡ Below))
-        → (order xs ys ≡ Below → order ys zs ≡ Below → common xs zs ≡ min (common xs ys) (common ys zs)) → Goal
+    go : (x < y) ⊎ ((x ≡ y) × (order xs ys ≡ Less)) → (y < z) ⊎ ((y ≡ z) × (order ys zs ≡ Less))
+        → (order xs ys ≡ Less → order ys zs ≡ Less → common xs zs ≡ min (common xs ys) (common ys zs)) → Goal
     go (inl h) k next =
         let m : x ≡ z → ⊥ = ⊎_elim (λ l e. omega arith) (λ l e. omega arith) k in
         omega (arith, common_ne x z xs zs m, common_ne x y xs ys (λ e. omega arith))
@@ -35,16 +35,16 @@ common-rising (x ∷ xs) (y ∷ ys) (z ∷ zs) e f =
         omega (arith, common_eq x z xs zs (omega arith), common_eq x y xs ys h.0, common_eq y z ys zs k.0, next h.1 k.1)
 
 -- a key is not above another: it is below it, or they are equal
-up_to : (a b : List ℕ) → (order a b ≡ Above → ⊥) → (order a b ≡ Below) ⊎ (a ≡ b)
+up_to : (a b : List ℕ) → (order a b ≡ Greater → ⊥) → (order a b ≡ Less) ⊎ (a ≡ b)
 up_to a b h = go (order a b) refl
   where
-    go : (o : Order) → order a b ≡ o → (order a b ≡ Below) ⊎ (a ≡ b)
-    go Below e = inl e
-    go Same e = inr (order_same a b e)
-    go Above e = absurd (h e)
+    go : (o : Ordering) → order a b ≡ o → (order a b ≡ Less) ⊎ (a ≡ b)
+    go Less e = inl e
+    go Equal e = inr (order_same a b e)
+    go Greater e = absurd (h e)
 
 -- three keys in order, equal ones too
-module _ (a b c : List ℕ) (ab : order a b ≡ Above → ⊥) (bc : order b c ≡ Above → ⊥) where
+module _ (a b c : List ℕ) (ab : order a b ≡ Greater → ⊥) (bc : order b c ≡ Greater → ⊥) where
   pub common-between : common a c ≡ min (common a b) (common b c)
   common-between =
       ⊎_elim

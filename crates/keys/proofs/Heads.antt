@@ -14,9 +14,9 @@ use Rattle.octets.specs.Bytes.{IsBytes, be}
 use Rattle.octets.proofs.Big.{be-cons, be-lt, digits_eq}
 use Rattle.keys.specs.Choice.{pick}
 use Rattle.keys.specs.Keys.{by_number, order, head_of, meets}
-use Rattle.keys.specs.declared.order.Order.{Order}
-use Rattle.keys.specs.declared.order.Order.TheVariants.{Below, Same, Above}
 use Rattle.keys.proofs.Numbers.{alike?, by_number-lt, by_number_eq, by_number_gt, by_number_ne, by_number-suc, by_number_digits}
+use Rattle.std.specs.declared.cmp.Ordering.{Ordering}
+use Rattle.std.specs.declared.cmp.Ordering.TheVariants.{Less, Equal, Greater}
 
 be-nil : (n o : ℕ) → be n [] o ≡ 0
 unfolding be
@@ -37,15 +37,15 @@ tail x xs h i = h (suc i)
 front_order : (n : ℕ) (a b : List ℕ) → IsBytes a → IsBytes b → by_number (be n a 0) (be n b 0) (order a b) ≡ order a b
 unfolding order
 front_order zero a b ha hb = by_number_eq (be 0 a 0) (be 0 b 0) (order a b) (unfold be in refl)
-front_order (suc n) [] [] ha hb = by_number_eq (be (suc n) [] 0) (be (suc n) [] 0) Same refl
+front_order (suc n) [] [] ha hb = by_number_eq (be (suc n) [] 0) (be (suc n) [] 0) Equal refl
 front_order (suc n) [] (y ∷ ys) ha hb = rw (be-nil (suc n) 0) (low (be (suc n) (y ∷ ys) 0))
   where
-    low : (v : ℕ) → by_number 0 v Below ≡ Below
-    low v = ⊎_elim (λ e. by_number_eq 0 v Below e) (λ e. by_number-lt 0 v Below (omega arith)) (alike? 0 v)
+    low : (v : ℕ) → by_number 0 v Less ≡ Less
+    low v = ⊎_elim (λ e. by_number_eq 0 v Less e) (λ e. by_number-lt 0 v Less (omega arith)) (alike? 0 v)
 front_order (suc n) (x ∷ xs) [] ha hb = rw (be-nil (suc n) 0) (high (be (suc n) (x ∷ xs) 0))
   where
-    high : (v : ℕ) → by_number v 0 Above ≡ Above
-    high v = ⊎_elim (λ e. by_number_eq v 0 Above e) (λ e. by_number_gt v 0 Above (omega arith)) (alike? v 0)
+    high : (v : ℕ) → by_number v 0 Greater ≡ Greater
+    high v = ⊎_elim (λ e. by_number_eq v 0 Greater e) (λ e. by_number_gt v 0 Greater (omega arith)) (alike? v 0)
 front_order (suc n) (x ∷ xs) (y ∷ ys) ha hb =
     let u = be n xs 0 in
     let v = be n ys 0 in
@@ -57,26 +57,26 @@ front_order (suc n) (x ∷ xs) (y ∷ ys) ha hb =
 
 -- equal numbers of n bytes, and a key within them: the lengths decide
 front_lengths : (n : ℕ) (a b : List ℕ) → IsBytes a → IsBytes b → be n a 0 ≡ be n b 0 → (length a ≤ n) ⊎ (length b ≤ n)
-    → order a b ≡ by_number (length a) (length b) Same
+    → order a b ≡ by_number (length a) (length b) Equal
 unfolding order
-front_lengths n [] [] ha hb l s = sym (by_number_eq 0 0 Same refl)
-front_lengths n [] (y ∷ ys) ha hb l s = sym (by_number-lt 0 (suc (length ys)) Same (omega arith))
-front_lengths n (x ∷ xs) [] ha hb l s = sym (by_number_gt (suc (length xs)) 0 Same (omega arith))
+front_lengths n [] [] ha hb l s = sym (by_number_eq 0 0 Equal refl)
+front_lengths n [] (y ∷ ys) ha hb l s = sym (by_number-lt 0 (suc (length ys)) Equal (omega arith))
+front_lengths n (x ∷ xs) [] ha hb l s = sym (by_number_gt (suc (length xs)) 0 Equal (omega arith))
 front_lengths zero (x ∷ xs) (y ∷ ys) ha hb l s = absurd (⊎_elim (λ h. omega arith) (λ h. omega arith) s)
 front_lengths (suc n) (x ∷ xs) (y ∷ ys) ha hb l s =
     let next = front_lengths n xs ys (tail x xs ha) (tail y ys hb) in
     let d = digits_eq (256 ^ n) x y (be n xs 0) (be n ys 0) (be-lt n xs 0 (tail x xs ha)) (be-lt n ys 0 (tail y ys hb))
     (sym (be-cons n x xs) ∙ l ∙ be-cons n y ys) in
-    by_number_eq x y (order xs ys) d.0 ∙ next d.1 (⊎_map (λ h. omega arith) (λ h. omega arith) s) ∙ sym (by_number-suc (length xs) (length ys) Same)
+    by_number_eq x y (order xs ys) d.0 ∙ next d.1 (⊎_map (λ h. omega arith) (λ h. omega arith) s) ∙ sym (by_number-suc (length xs) (length ys) Equal)
 
 module _ (a b : List ℕ) (ha : IsBytes a) (hb : IsBytes b) where
   -- heads that differ decide the order
-  pub head-differ : (head_of a ≡ head_of b → ⊥) → order a b ≡ by_number (head_of a) (head_of b) Same
+  pub head-differ : (head_of a ≡ head_of b → ⊥) → order a b ≡ by_number (head_of a) (head_of b) Equal
   unfolding head_of
-  head-differ e = sym (front_order 4 a b ha hb) ∙ by_number_ne (be 4 a 0) (be 4 b 0) (order a b) Same e
+  head-differ e = sym (front_order 4 a b ha hb) ∙ by_number_ne (be 4 a 0) (be 4 b 0) (order a b) Equal e
 
   -- equal heads with a suffix within four bytes are ordered by length
-  pub head-lengths : head_of a ≡ head_of b → (length a ≤ 4) ⊎ (length b ≤ 4) → order a b ≡ by_number (length a) (length b) Same
+  pub head-lengths : head_of a ≡ head_of b → (length a ≤ 4) ⊎ (length b ≤ 4) → order a b ≡ by_number (length a) (length b) Equal
   unfolding head_of
   head-lengths e s = front_lengths 4 a b ha hb e s
 
@@ -85,12 +85,12 @@ module _ (a b : List ℕ) (ha : IsBytes a) (hb : IsBytes b) where
   unfolding meets
   meets-order =
       ⊎_elim (λ e. by_number_eq (head_of a) (head_of b) rest e ∙ equal e (leb (min (length a) (length b)) 4) refl)
-      (λ e. by_number_ne (head_of a) (head_of b) rest Same e ∙ sym (head-differ e))
+      (λ e. by_number_ne (head_of a) (head_of b) rest Equal e ∙ sym (head-differ e))
       (alike? (head_of a) (head_of b))
     where
-      rest : Order
-      rest = pick (leb (min (length a) (length b)) 4) (by_number (length a) (length b) Same) (order a b)
+      rest : Ordering
+      rest = pick (leb (min (length a) (length b)) 4) (by_number (length a) (length b) Equal) (order a b)
 
-      equal : head_of a ≡ head_of b → (t : Bool) → leb (min (length a) (length b)) 4 ≡ t → pick t (by_number (length a) (length b) Same) (order a b) ≡ order a b
+      equal : head_of a ≡ head_of b → (t : Bool) → leb (min (length a) (length b)) 4 ≡ t → pick t (by_number (length a) (length b) Equal) (order a b) ≡ order a b
       equal e true q = sym (head-lengths e (within (length a) (length b) (leb-true (min (length a) (length b)) 4 q)))
       equal e false q = refl

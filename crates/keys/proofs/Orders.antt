@@ -11,26 +11,27 @@ use lib.Dec.{eqb}
 use lib.ListN.{length, get_or, drop}
 use lib.Seq.{drop-cons}
 use Rattle.keys.specs.Choice.{both}
-use Rattle.keys.specs.Keys.{by_number, order, flip, same_list}
-use Rattle.keys.specs.declared.order.Order.{Order}
-use Rattle.keys.specs.declared.order.Order.TheVariants.{Below, Same, Above}
+use Rattle.keys.specs.Keys.{by_number, order, same_list}
 use Rattle.keys.proofs.Numbers.{below_same, below_above, same_above, by_number-lt, by_number_eq, by_number-flip, by_number_below, by_number_same}
+use Rattle.std.specs.declared.cmp.Ordering.{Ordering}
+use Rattle.std.specs.declared.cmp.Ordering.TheVariants.{Less, Equal, Greater}
+use Rattle.std.specs.Ordering.{ordering_reverse}
 
-pub order_refl : (a : List ℕ) → order a a ≡ Same
+pub order_refl : (a : List ℕ) → order a a ≡ Equal
 unfolding order
 order_refl [] = refl
 order_refl (x ∷ xs) = by_number_eq x x (order xs xs) refl ∙ order_refl xs
 
 -- the other way round the answer is the other way round
-pub order_flip : (a b : List ℕ) → order b a ≡ flip (order a b)
-unfolding order flip
+pub order_flip : (a b : List ℕ) → order b a ≡ ordering_reverse (order a b)
+unfolding order
 order_flip [] [] = refl
 order_flip [] (y ∷ ys) = refl
 order_flip (x ∷ xs) [] = refl
 order_flip (x ∷ xs) (y ∷ ys) = rw (order_flip xs ys) (by_number-flip x y (order xs ys))
 
 -- keys at the same place are equal
-pub order_same : (a b : List ℕ) → order a b ≡ Same → a ≡ b
+pub order_same : (a b : List ℕ) → order a b ≡ Equal → a ≡ b
 unfolding order
 order_same [] [] e = refl
 order_same [] (y ∷ ys) e = below_same e
@@ -38,10 +39,10 @@ order_same (x ∷ xs) [] e = same_above (sym e)
 order_same (x ∷ xs) (y ∷ ys) e = let h = by_number_same x y (order xs ys) e in cc (order_same xs ys h.1)
 
 -- and equal keys are at the same place
-pub same_order : (a b : List ℕ) → a ≡ b → order a b ≡ Same
+pub same_order : (a b : List ℕ) → a ≡ b → order a b ≡ Equal
 same_order a b e = rw (← e) (order_refl a)
 
-pub order_trans : (a b c : List ℕ) → order a b ≡ Below → order b c ≡ Below → order a c ≡ Below
+pub order_trans : (a b c : List ℕ) → order a b ≡ Less → order b c ≡ Less → order a c ≡ Less
 unfolding order
 order_trans [] [] c e f = f
 order_trans [] (y ∷ ys) [] e f = below_above (sym f)
@@ -50,28 +51,25 @@ order_trans (x ∷ xs) [] c e f = below_above (sym e)
 order_trans (x ∷ xs) (y ∷ ys) [] e f = below_above (sym f)
 order_trans (x ∷ xs) (y ∷ ys) (z ∷ zs) e f =
     let rest = order_trans xs ys zs in
-    let low : x < z → by_number x z (order xs zs) ≡ Below = by_number-lt x z (order xs zs) in
+    let low : x < z → by_number x z (order xs zs) ≡ Less = by_number-lt x z (order xs zs) in
     ⊎_elim (λ h. ⊎_elim (λ k. low (omega arith)) (λ k. low (omega arith)) (by_number_below y z (order ys zs) f))
     (λ h. ⊎_elim (λ k. low (omega arith)) (λ k. by_number_eq x z (order xs zs) (omega arith) ∙ rest h.1 k.1) (by_number_below y z (order ys zs) f))
     (by_number_below x y (order xs ys) e)
 
 -- ---- the three answers
-pub order_total : (a b : List ℕ) → (order a b ≡ Below) ⊎ ((a ≡ b) ⊎ (order b a ≡ Below))
-unfolding flip
+pub order_total : (a b : List ℕ) → (order a b ≡ Less) ⊎ ((a ≡ b) ⊎ (order b a ≡ Less))
 order_total a b = go (order a b) refl
   where
-    go : (o : Order) → order a b ≡ o → (order a b ≡ Below) ⊎ ((a ≡ b) ⊎ (order b a ≡ Below))
-    go Below e = inl e
-    go Same e = inr (inl (order_same a b e))
-    go Above e = inr (inr (order_flip a b ∙ ap flip e))
+    go : (o : Ordering) → order a b ≡ o → (order a b ≡ Less) ⊎ ((a ≡ b) ⊎ (order b a ≡ Less))
+    go Less e = inl e
+    go Equal e = inr (inl (order_same a b e))
+    go Greater e = inr (inr (order_flip a b ∙ ap ordering_reverse e))
 
-pub order-above : (a b : List ℕ) → order a b ≡ Above → order b a ≡ Below
-unfolding flip
-order-above a b e = order_flip a b ∙ ap flip e
+pub order-above : (a b : List ℕ) → order a b ≡ Greater → order b a ≡ Less
+order-above a b e = order_flip a b ∙ ap ordering_reverse e
 
-pub order_below : (a b : List ℕ) → order a b ≡ Below → order b a ≡ Above
-unfolding flip
-order_below a b e = order_flip a b ∙ ap flip e
+pub order_below : (a b : List ℕ) → order a b ≡ Less → order b a ≡ Greater
+order_below a b e = order_flip a b ∙ ap ordering_reverse e
 
 -- ---- a common front
 pub order-append : (p a b : List ℕ) → order (p ++ a) (p ++ b) ≡ order a b

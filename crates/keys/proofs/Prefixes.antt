@@ -14,9 +14,9 @@ use lib.ListN.{length, get_or, take, drop, length-take}
 use lib.Seq.{ext_get_or, get_or-take, length-take-le, take_all}
 use Rattle.octets.proofs.Alike.{Alike}
 use Rattle.keys.specs.Keys.{begins, by_number, order, common, same_list}
-use Rattle.keys.specs.declared.order.Order.TheVariants.{Same}
 use Rattle.keys.proofs.Numbers.{alike?, by_number-lt, by_number_eq, by_number_gt, by_number_ne, by_number-suc}
 use Rattle.keys.proofs.Orders.{order_same, order_step, eq_same_list, ne_same_list}
+use Rattle.std.specs.declared.cmp.Ordering.TheVariants.{Equal}
 
 -- ---- one byte of each
 pub common_eq : (x y : ℕ) (xs ys : List ℕ) → x ≡ y → common (x ∷ xs) (y ∷ ys) ≡ suc (common xs ys)
@@ -123,12 +123,12 @@ order_skip (x ∷ xs) (y ∷ ys) (suc i) h =
 
 -- the first byte that differs decides
 pub order-differ : (a b : List ℕ) → common a b < length a → common a b < length b
-    → order a b ≡ by_number (get_or a (common a b) 0) (get_or b (common a b) 0) Same
+    → order a b ≡ by_number (get_or a (common a b) 0) (get_or b (common a b) 0) Equal
 order-differ a b h k =
     let n = common a b in
     order_skip a b n (omega arith)
     ∙ order_step a b n h k
-    ∙ by_number_ne (get_or a n 0) (get_or b n 0) (order (drop (suc n) a) (drop (suc n) b)) Same (λ e. differs e)
+    ∙ by_number_ne (get_or a n 0) (get_or b n 0) (order (drop (suc n) a) (drop (suc n) b)) Equal (λ e. differs e)
   where
     differs : get_or a (common a b) 0 ≡ get_or b (common a b) 0 → ⊥
     differs e = omega (arith, common_ge a b (suc (common a b)) (omega arith) (omega arith) upto)
@@ -141,23 +141,23 @@ order-differ a b h k =
             go (no m) = let f : j ≡ common a b = omega arith in rw f e
 
 -- where one key is all common, the lengths decide
-pub order_lengths : (a b : List ℕ) → (length a ≤ common a b) ⊎ (length b ≤ common a b) → order a b ≡ by_number (length a) (length b) Same
+pub order_lengths : (a b : List ℕ) → (length a ≤ common a b) ⊎ (length b ≤ common a b) → order a b ≡ by_number (length a) (length b) Equal
 unfolding order
-order_lengths [] [] h = sym (by_number_eq 0 0 Same refl)
-order_lengths [] (y ∷ ys) h = sym (by_number-lt 0 (suc (length ys)) Same (omega arith))
-order_lengths (x ∷ xs) [] h = sym (by_number_gt (suc (length xs)) 0 Same (omega arith))
+order_lengths [] [] h = sym (by_number_eq 0 0 Equal refl)
+order_lengths [] (y ∷ ys) h = sym (by_number-lt 0 (suc (length ys)) Equal (omega arith))
+order_lengths (x ∷ xs) [] h = sym (by_number_gt (suc (length xs)) 0 Equal (omega arith))
 order_lengths (x ∷ xs) (y ∷ ys) h = go (alike? x y) (order_lengths xs ys)
   where
-    go : (x ≡ y) ⊎ (x ≡ y → ⊥) → ((length xs ≤ common xs ys) ⊎ (length ys ≤ common xs ys) → order xs ys ≡ by_number (length xs) (length ys) Same)
-        → by_number x y (order xs ys) ≡ by_number (suc (length xs)) (suc (length ys)) Same
+    go : (x ≡ y) ⊎ (x ≡ y → ⊥) → ((length xs ≤ common xs ys) ⊎ (length ys ≤ common xs ys) → order xs ys ≡ by_number (length xs) (length ys) Equal)
+        → by_number x y (order xs ys) ≡ by_number (suc (length xs)) (suc (length ys)) Equal
     go (inl e) next =
         let f = common_eq x y xs ys e in
-        by_number_eq x y (order xs ys) e ∙ next (⊎_elim (λ k. inl (omega arith)) (λ k. inr (omega arith)) h) ∙ sym (by_number-suc (length xs) (length ys) Same)
+        by_number_eq x y (order xs ys) e ∙ next (⊎_elim (λ k. inl (omega arith)) (λ k. inr (omega arith)) h) ∙ sym (by_number-suc (length xs) (length ys) Equal)
     go (inr e) next = absurd (⊎_elim (λ k. omega (arith, common_ne x y xs ys e)) (λ k. omega (arith, common_ne x y xs ys e)) h)
 
 -- keys of one length that are all common are equal
 pub all_common : (a b : List ℕ) → length a ≡ length b → common a b ≡ length a → a ≡ b
-all_common a b e c = order_same a b (order_lengths a b (inl (omega arith)) ∙ by_number_eq (length a) (length b) Same e)
+all_common a b e c = order_same a b (order_lengths a b (inl (omega arith)) ∙ by_number_eq (length a) (length b) Equal e)
 
 -- so for keys of one length the test of the common prefix is the test of the bytes
 pub common_test : (a b : List ℕ) → length a ≡ length b → eqb (common a b) (length a) ≡ same_list a b

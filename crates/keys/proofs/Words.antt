@@ -17,10 +17,10 @@ use Rattle.octets.proofs.Little.{le_same}
 use Rattle.octets.proofs.Big.{be-lt, be_same}
 use Rattle.keys.specs.Keys.{by_number, order, common}
 use Rattle.keys.specs.Walk.{Near}
-use Rattle.keys.specs.declared.order.Order.TheVariants.{Same}
 use Rattle.keys.proofs.Numbers.{alike?, by_number_eq, by_number_ne, by_number_digits}
 use Rattle.keys.proofs.Orders.{order_step}
 use Rattle.keys.proofs.Prefixes.{common_at, common_grow, order_skip, order_lengths}
+use Rattle.std.specs.declared.cmp.Ordering.TheVariants.{Equal}
 
 -- a big-endian word of n bytes orders two keys as its bytes do
 word-order : (n : ℕ) (a b : List ℕ) (i : ℕ) → i + n ≤ length a → i + n ≤ length b → IsBytes a → IsBytes b
@@ -39,10 +39,10 @@ word-order (suc n) a b i h k ha hb =
 -- ---- at the words x and y of n bytes that were read from i on
 module _ (a b : List ℕ) (ha : IsBytes a) (hb : IsBytes b) (n i : ℕ) (x y : ℕ) where
   -- big-endian words that differ decide the order
-  pub word_out : x ≡ be n a i → y ≡ be n b i → (x ≡ y → ⊥) → i ≤ common a b → i + n ≤ length a → i + n ≤ length b → by_number x y Same ≡ order a b
+  pub word_out : x ≡ be n a i → y ≡ be n b i → (x ≡ y → ⊥) → i ≤ common a b → i + n ≤ length a → i + n ≤ length b → by_number x y Equal ≡ order a b
   word_out p q e c h k =
       let rest = order (drop (i + n) a) (drop (i + n) b) in
-      by_number_ne x y Same rest e ∙ rw (p, q) (sym (order_skip a b i c ∙ word-order n a b i h k ha hb))
+      by_number_ne x y Equal rest e ∙ rw (p, q) (sym (order_skip a b i c ∙ word-order n a b i h k ha hb))
 
   -- equal words are n bytes more in common, highest byte first or lowest
   pub word_on : x ≡ be n a i → y ≡ be n b i → x ≡ y → i ≤ common a b → i + n ≤ length a → i + n ≤ length b → i + n ≤ common a b
@@ -82,5 +82,5 @@ module _ (a b : List ℕ) (ha : IsBytes a) (hb : IsBytes b) (n i : ℕ) (x y : �
       record { fits_a = omega arith; fits_b = omega arith; alike = on; differ = omega arith }
 
 -- ---- at the end
-pub all_alike : (a b : List ℕ) (n : ℕ) → (length a ≤ n) ⊎ (length b ≤ n) → n ≤ common a b → by_number (length a) (length b) Same ≡ order a b
+pub all_alike : (a b : List ℕ) (n : ℕ) → (length a ≤ n) ⊎ (length b ≤ n) → n ≤ common a b → by_number (length a) (length b) Equal ≡ order a b
 all_alike a b n h c = sym (order_lengths a b (⊎_elim (λ k. inl (omega arith)) (λ k. inr (omega arith)) h))

@@ -2,33 +2,27 @@
 use Rattle.std.specs.Prelude.{ℕ, suc, min, Bool, true, false, List, [], ◌∷◌, leb, ltb, eqb, length, take}
 use Rattle.octets.specs.Bytes.{be}
 use Rattle.keys.specs.Choice.{pick, both}
-use Rattle.keys.specs.declared.order.Order.{Order}
-use Rattle.keys.specs.declared.order.Order.TheVariants.{Below, Same, Above}
+use Rattle.std.specs.declared.cmp.Ordering.{Ordering}
+use Rattle.std.specs.declared.cmp.Ordering.TheVariants.{Less, Equal, Greater}
 
 -- the order of two numbers, and o where they are equal
-unfoldable pub by_number : ℕ → ℕ → Order → Order
-by_number x y o = pick (ltb x y) Below (pick (ltb y x) Above o)
+unfoldable pub by_number : ℕ → ℕ → Ordering → Ordering
+by_number x y o = pick (ltb x y) Less (pick (ltb y x) Greater o)
 
 -- "keys are in unsigned byte order; a proper prefix is smaller"
-unfoldable pub order : List ℕ → List ℕ → Order
-order [] [] = Same
-order [] (y ∷ ys) = Below
-order (x ∷ xs) [] = Above
+unfoldable pub order : List ℕ → List ℕ → Ordering
+order [] [] = Equal
+order [] (y ∷ ys) = Less
+order (x ∷ xs) [] = Greater
 order (x ∷ xs) (y ∷ ys) = by_number x y (order xs ys)
-
--- the order seen from the other key
-unfoldable pub flip : Order → Order
-flip Below = Above
-flip Same = Same
-flip Above = Below
 
 -- "the head is the suffix's first four bytes, zero padded, read big-endian"
 unfoldable pub head_of : List ℕ → ℕ
 head_of s = be 4 s 0
 
 -- "a slot meets a probe by heads; if equal and either suffix is within 4 bytes, by lengths; else by suffix bytes"
-unfoldable pub meets : List ℕ → List ℕ → Order
-meets a b = by_number (head_of a) (head_of b) (pick (leb (min (length a) (length b)) 4) (by_number (length a) (length b) Same) (order a b))
+unfoldable pub meets : List ℕ → List ℕ → Ordering
+meets a b = by_number (head_of a) (head_of b) (pick (leb (min (length a) (length b)) 4) (by_number (length a) (length b) Equal) (order a b))
 
 -- the length of the longest common prefix: how many leading bytes two keys share
 unfoldable pub common : List ℕ → List ℕ → ℕ

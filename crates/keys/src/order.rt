@@ -2,34 +2,27 @@
 ghost use Rattle.std.specs.Prelude.{◌≡◌, ◌+◌, ◌≤◌, ◌<◌};
 ghost use Rattle.keys.specs.Keys.{by_number, order};
 ghost use Rattle.keys.specs.Walk.{Reach};
-ghost use Rattle.keys.specs.declared.order.Order.TheVariants.{Same};
+ghost use Rattle.std.specs.declared.cmp.Ordering.TheVariants.{Equal};
 
 use crate::walk;
 use octets::number;
-
-// How one key stands to another.
-#[derive(Clone, Copy)]
-pub enum Order {
-    Below,
-    Same,
-    Above,
-}
+use std::cmp::Ordering;
 
 // The order of two numbers.
-pub fn by_number(x: u64, y: u64) -> Order
-    ensures { result ≡ by_number x y Same }
+pub fn by_number(x: u64, y: u64) -> Ordering
+    ensures { result ≡ by_number x y Equal }
 {
     if x < y {
-        return Order::Below;
+        return Ordering::Less;
     }
     if y < x {
-        return Order::Above;
+        return Ordering::Greater;
     }
-    Order::Same
+    Ordering::Equal
 }
 
 // Fewer than four bytes, one by one.
-fn singles(a: &[u8], b: &[u8], n: usize) -> Order
+fn singles(a: &[u8], b: &[u8], n: usize) -> Ordering
     requires { Reach a.now b.now 0 n }
     ensures { result ≡ order a.now b.now }
 {
@@ -46,7 +39,7 @@ fn singles(a: &[u8], b: &[u8], n: usize) -> Order
 }
 
 // Four to seven bytes: two words of four, the second up to the end.
-fn few(a: &[u8], b: &[u8], n: usize) -> Order
+fn few(a: &[u8], b: &[u8], n: usize) -> Ordering
     requires { (4 ≤ n) × (n < 8) × Reach a.now b.now 0 n }
     ensures { result ≡ order a.now b.now }
 {
@@ -64,7 +57,7 @@ fn few(a: &[u8], b: &[u8], n: usize) -> Order
 }
 
 // Fewer than eight bytes.
-fn short(a: &[u8], b: &[u8], n: usize) -> Order
+fn short(a: &[u8], b: &[u8], n: usize) -> Ordering
     requires { (n < 8) × Reach a.now b.now 0 n }
     ensures { result ≡ order a.now b.now }
 {
@@ -75,7 +68,7 @@ fn short(a: &[u8], b: &[u8], n: usize) -> Order
 }
 
 // Words of eight bytes, the last one up to the end.
-fn words(a: &[u8], b: &[u8], from: usize, n: usize) -> Order
+fn words(a: &[u8], b: &[u8], from: usize, n: usize) -> Ordering
     requires { (8 ≤ n) × Reach a.now b.now from n }
     ensures { result ≡ order a.now b.now }
 {
@@ -98,7 +91,7 @@ fn words(a: &[u8], b: &[u8], from: usize, n: usize) -> Order
 
 // The order of two keys: unsigned bytes, a proper prefix below. Its parts have this one caller, so that
 // they melt into it.
-pub fn compare(a: &[u8], b: &[u8]) -> Order
+pub fn compare(a: &[u8], b: &[u8]) -> Ordering
     ensures { result ≡ order a.now b.now }
 {
     let n = walk::lesser(a.len(), b.len());

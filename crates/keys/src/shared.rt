@@ -4,9 +4,9 @@ ghost use Rattle.std.specs.Prelude.{◌≡◌, ◌≤◌, leb, length};
 ghost use Rattle.keys.specs.Keys.{begins, common, order, same_list};
 ghost use Rattle.keys.specs.Walk.{Near, Reach};
 
-use crate::order::Order;
 use crate::walk;
 use octets::number;
+use std::cmp::Ordering;
 
 // The half that has the first difference: four bytes of eight.
 fn half_4(a: &[u8], b: &[u8], i: usize) -> usize
@@ -138,21 +138,21 @@ pub fn begins_with(a: &[u8], b: &[u8]) -> bool
 
 // How `a` stands to `b`, by what they share. Where speed matters less than the one call of `order::compare`, which then melts
 // into the hot search.
-pub fn order_by_shared(a: &[u8], b: &[u8]) -> Order
+pub fn order_by_shared(a: &[u8], b: &[u8]) -> Ordering
     ensures { result ≡ order a.now b.now }
 {
     let n = common_prefix_len(a, b);
     if n == a.len() {
         if n == b.len() {
-            return Order::Same;
+            return Ordering::Equal;
         }
-        return Order::Below;
+        return Ordering::Less;
     }
     if n == b.len() {
-        return Order::Above;
+        return Ordering::Greater;
     }
     if a[n] < b[n] {
-        return Order::Below;
+        return Ordering::Less;
     }
-    Order::Above
+    Ordering::Greater
 }

@@ -1,17 +1,17 @@
 -- Decimal digits one at a time, from the last; hex digits a byte at a time, from the first. Assumes nothing.
 use mathlib.Core.Path.{◌≡◌, refl, sym, ◌∙◌}
 use mathlib.Core.List.{List, [], ◌∷◌, ◌++◌}
-use Prim.Native.Nat.{ℕ, zero, suc, ◌+◌, ◌*◌, ◌-◌, ◌/◌, ◌%◌, ◌^◌, ◌≤◌, ◌<◌}
+use Prim.Native.Nat.{ℕ, zero, suc, ◌+◌, ◌/◌, ◌%◌, ◌^◌, ◌≤◌, ◌<◌}
 use native.Mathlib.Nat.{pow-suc}
 use native.Mathlib.Numerals.{add-one}
 use native.Mathlib.Decide.{dec_lt}
 use native.Mathlib.Omega.{arith}
 use borrow.Author.Tests.{lt-ltb, le-ltb}
-use lib.ListN.{length, set, get_or, drop, length-append, drop_of_length-le}
+use lib.ListN.{length, get_or, drop, length-append, drop_of_length-le}
 use lib.Seq.{drop-cons}
-use Rattle.octets.specs.Bytes.{put}
-use Rattle.octets.proofs.Put.{put-append, put-set-above}
-use Rattle.paper.specs.Printed.{decimal_in, decimal, hex_digit, hex_bytes}
+use Rattle.listing.specs.Line.{Line, Adds}
+use Rattle.listing.proofs.Writing.{adds-then}
+use Rattle.paper.specs.Printed.{decimal_in, decimal, number_words, hex_digit, hex_bytes}
 
 -- ---- decimal
 in_short : (k n : ℕ) → n < 10 → decimal_in k n ≡ (48 + n) ∷ []
@@ -44,43 +44,46 @@ pub length-decimal : (n : ℕ) → length (decimal n) ≤ 20
 unfolding decimal
 length-decimal n = in_length 19 n
 
-pub decimal_short : (n : ℕ) → n < 10 → decimal n ≡ (48 + n) ∷ []
+pub decimal-short : (n : ℕ) → n < 10 → decimal n ≡ (48 + n) ∷ []
 unfolding decimal
-decimal_short n h = in_short 19 n h
+decimal-short n h = in_short 19 n h
 
 -- the last digit of a number of 64 bits
-decimal-turn : (n : ℕ) → 10 ≤ n → n < 18446744073709551616 → decimal n ≡ decimal (n / 10) ++ ((48 + n % 10) ∷ [])
+pub decimal-turn : (n : ℕ) → 10 ≤ n → n < 18446744073709551616 → decimal n ≡ decimal (n / 10) ++ ((48 + n % 10) ∷ [])
 unfolding decimal
 decimal-turn n h l = in_turn 18 n h ∙ rw (in_more 18 (n / 10) (omega arith))
 
 pub length-turn : (n : ℕ) → 10 ≤ n → n < 18446744073709551616 → length (decimal n) ≡ length (decimal (n / 10)) + 1
 length-turn n h l = rw (decimal-turn n h l, length-append)
 
--- it is written, and the others are left
-pub spell_turn : (p : List ℕ) (o n i : ℕ) → 10 ≤ n → n < 18446744073709551616 → i ≡ length (decimal n) → put p o (decimal n) ≡ put (set p (o + (i - 1)) (48 + n % 10)) o (decimal (n / 10))
-unfolding put
-spell_turn p o n i h l e =
-    let d : i - 1 ≡ length (decimal (n / 10)) = omega (arith, length-turn n h l) in
-    rw (decimal-turn n h l, d, put-append p o (decimal (n / 10)) ((48 + n % 10) ∷ []))
-    (sym (put-set-above p o (decimal (n / 10)) (o + length (decimal (n / 10))) (48 + n % 10) (omega arith)))
+pub length-short : (n : ℕ) → n < 10 → length (decimal n) ≡ 1
+length-short n h = rw (decimal-short n h)
 
-pub spell_done : (p : List ℕ) (o n : ℕ) → n < 10 → put p o (decimal n) ≡ set p o (48 + n)
-unfolding put
-spell_done p o n h = rw (decimal_short n h)
+-- a text with the digits behind it, the last one by itself
+pub digits-short : (a b : Line) (n : ℕ) → n < 10 → Adds a ((48 + n % 10) ∷ []) b → Adds a (decimal n) b
+digits-short a b n h f =
+    let e : n % 10 ≡ n = omega arith in
+    rw (decimal-short n h, ← e) f
 
--- ---- hex
-pub length_hex : (l : List ℕ) → length (hex_bytes l) ≡ 2 * length l
-unfolding hex_bytes
-length_hex [] = refl
-length_hex (b ∷ l) = omega (arith, length_hex l)
+pub digits-turn : (a b d : Line) (n : ℕ) → 10 ≤ n → n < 18446744073709551616 → Adds a (decimal (n / 10)) b → Adds b ((48 + n % 10) ∷ []) d → Adds a (decimal n) d
+digits-turn a b d n h l f g = rw (decimal-turn n h l) (adds-then a b d (decimal (n / 10)) ((48 + n % 10) ∷ []) f g)
 
-module _ (p : List ℕ) (o : ℕ) (s : List ℕ) (j : ℕ) where
-  pub hex-turn : j < length s
-      → put p o (hex_bytes (drop j s))
-      ≡ put (set (set p o (hex_digit (get_or s j 0 / 16))) (o + 1) (hex_digit (get_or s j 0 % 16))) (o + 2) (hex_bytes (drop (j + 1) s))
-  unfolding put hex_bytes
-  hex-turn h = let e : o + 2 ≡ suc (suc o) = omega arith in rw (e, add-one o, add-one j, drop-cons s j 0 h)
+-- ---- what is left to put of a list l, from place j on
+module _ (l : List ℕ) (j : ℕ) where
+  -- a byte in hex
+  pub hex-turn : (x y : ℕ) → j < length l → x ≡ hex_digit (get_or l j 0 / 16) → y ≡ hex_digit (get_or l j 0 % 16) → hex_bytes (drop j l) ≡ (x ∷ []) ++ (y ∷ []) ++ hex_bytes (drop (j + 1) l)
+  unfolding hex_bytes
+  hex-turn x y h e f = rw (e, f, add-one j, drop-cons l j 0 h)
 
-  pub hex-done : length s ≤ j → put p o (hex_bytes (drop j s)) ≡ p
-  unfolding put hex_bytes
-  hex-done h = rw (drop_of_length-le s h)
+  pub hex-done : length l ≤ j → hex_bytes (drop j l) ≡ []
+  unfolding hex_bytes
+  hex-done h = rw (drop_of_length-le l h)
+
+  -- a number, with a blank before it
+  pub words-turn : j < length l → number_words (drop j l) ≡ (32 ∷ []) ++ decimal (get_or l j 0) ++ number_words (drop (j + 1) l)
+  unfolding number_words
+  words-turn h = rw (add-one j, drop-cons l j 0 h)
+
+  pub words-done : length l ≤ j → number_words (drop j l) ≡ 10 ∷ []
+  unfolding number_words
+  words-done h = rw (drop_of_length-le l h)

@@ -1,5 +1,5 @@
-pub mod Decimals
 pub mod Writing
-pub mod Filling
-pub mod Joined
+pub mod Decimals
 pub mod Telling
+pub mod Joined
+pub mod Going

@@ -1,57 +1,50 @@
--- What text does to a sink, byte by byte and piece by piece, and to the writer that it prints to. Assumes nothing.
+-- What text does to a writer and to sums, piece by piece. Assumes nothing.
 use mathlib.Core.Path.{◌≡◌, refl, sym, ap, subst, ◌∙◌}
-use mathlib.Core.List.{List, [], ◌∷◌, ◌++◌, append_assoc}
-use Prim.Native.Nat.{ℕ, suc, ◌+◌, ◌*◌, ◌-◌, ◌%◌, ◌≤◌, ◌<◌}
-use native.Mathlib.Numerals.{add-one}
-use native.Mathlib.Omega.{arith}
+use mathlib.Core.List.{List, [], ◌∷◌, ◌++◌}
+use Prim.Native.Nat.{ℕ, ◌+◌, ◌-◌, ◌≤◌, ◌<◌}
 use native.Mathlib.Decide.{dec_le}
+use native.Mathlib.Omega.{arith}
 use borrow.Author.Tests.{eq-eqb, ne_eqb}
-use lib.ListN.{length, get_or, take, drop, length-drop, drop_of_length-le}
-use lib.Seq.{drop-cons, take-add, take_all}
-use lib.Dec.{eqb}
-use Rattle.std.proofs.Common.{Option, Result, Ok, Err, IfOk, OnOk, OnErr}
+use lib.ListN.{length, get_or, take, drop, length-drop}
+use lib.Seq.{take-add, take_all, take-suc}
+use native.Mathlib.Numerals.{add-one}
+use Rattle.std.proofs.Common.{Option}
 use Rattle.std.specs.Io.KnownBytes.{Appends, Keeps}
 use Rattle.std.proofs.lemmas.List.{take-append-drop}
-use Rattle.std.proofs.KnownBytes.{Appends-nil, Appends-trans, Appends-kept}
-use Rattle.keys.specs.Choice.{pick}
-use Rattle.listing.specs.Sums.{Sound, sink, added, told, shown, Stopped}
+use Rattle.std.proofs.KnownBytes.{Appends-trans, Appends-kept}
+use Rattle.listing.specs.Sums.{sink, begun, added, told, shown, mode_of, Stopped}
+use Rattle.listing.specs.Summed.{one_more, summed}
+use Rattle.listing.specs.Laws.{summed-append}
 use Rattle.listing.specs.declared.sink.Sink.{Sink}
+use Rattle.listing.specs.declared.sink.Mode.TheVariants.{Printed, Summed}
+use Rattle.listing.specs.declared.receiver.Sums.{Sums}
 
--- ---- the bytes of a piece, added one by one: what is left from place i on
-add_one_byte : (s : Sink) (x : ℕ) (l : List ℕ) → 0 < s.mode → told s (x ∷ l) ≡ told (added s x) l
-unfolding told
-add_one_byte s x l h = rw (ne_eqb s.mode 0 (λ q. omega arith))
+-- ---- sums
+-- a byte more
+pub summed-turn : (a b c : Sums) (l : List ℕ) (j x : ℕ) → j < length l → x ≡ get_or l j 0 → b ≡ summed a (take j l) → c ≡ one_more b x → c ≡ summed a (take (j + 1) l)
+summed-turn a b c l j x h e f g =
+    rw (add-one j, take-suc l j 0 h) (summed-append a b c (take j l) (get_or l j 0 ∷ []) f (rw (← e) (unfold summed in g)))
 
-pub add_turn : (m a b n : ℕ) (l : List ℕ) (i x : ℕ) → 0 < m → i < length l → x ≡ get_or l i 0
-    → told (sink m a b n) (drop i l) ≡ told (sink m ((31 * a + x + 1) % 4294967291) ((37 * b + x + 1) % 4294967279) ((n + 1) % 4294967296)) (drop (i + 1) l)
-unfolding added
-add_turn m a b n l i x k h e = rw (add-one i, drop-cons l i 0 h, ← e) (add_one_byte (sink m a b n) x (drop (suc i) l) k)
+-- what a sink is told, where it does not print
+told_summed : (m : ℕ) (s : Sums) (l : List ℕ) → 0 < m → told (sink m s.h1 s.h2 s.len) l ≡ sink m (summed s l).h1 (summed s l).h2 (summed s l).len
+unfolding told added summed
+told_summed m s [] h = refl
+told_summed m s (x ∷ l) h = rw (ne_eqb m 0 (λ q. omega arith)) (told_summed m (one_more s x) l h)
 
-pub add_end : (s : Sink) (l : List ℕ) (i : ℕ) → length l ≤ i → told s (drop i l) ≡ s
-unfolding told
-add_end s l i h = rw (drop_of_length-le l h)
+-- ---- the mode that a number stands for
+pub mode-printed : (m : ℕ) → Printed ≡ mode_of m → m ≤ 0
+mode-printed m e = go (dec_le m 0)
+  where
+    go : Dec (m ≤ 0) → m ≤ 0
+    go (yes h) = h
+    go (no h) = absurd (cc (rw (ne_eqb m 0 (λ q. h (omega (arith, q)))) at e))
 
--- a sink that prints stays as it is
-pub told_printing : (s : Sink) (l : List ℕ) → s.mode ≤ 0 → told s l ≡ s
-unfolding told
-told_printing s [] h = refl
-told_printing s (x ∷ l) h = rw (eq-eqb s.mode 0 (omega arith)) (told_printing s l h)
-
--- one text and then another are one text
-pub told-append : (s : Sink) (a b : List ℕ) → told (told s a) b ≡ told s (a ++ b)
-unfolding told
-told-append s [] b = refl
-told-append s (x ∷ a) b = told-append (pick (eqb s.mode 0) s (added s x)) a b
-
--- ---- the mode stays, and says what is shown
-told-mode : (s : Sink) (l : List ℕ) → (told s l).mode ≡ s.mode
-unfolding told added
-told-mode s [] = refl
-told-mode s (x ∷ l) =
-    elim (dec_le s.mode 0) [
-      | yes h ↦ ap (λ t. t.mode) (told_printing s (x ∷ l) h)
-      | no h ↦ ap (λ t. t.mode) (add_one_byte s x l (omega arith)) ∙ told-mode (added s x) l
-    ]
+pub mode-summed : (m : ℕ) → Summed ≡ mode_of m → 0 < m
+mode-summed m e = go (dec_le m 0)
+  where
+    go : Dec (m ≤ 0) → 0 < m
+    go (yes h) = absurd (cc (rw (eq-eqb m 0 (omega (arith, h))) at e))
+    go (no h) = omega (arith, h)
 
 pub shown_all : (m : ℕ) (l : List ℕ) → m ≤ 0 → shown m l ≡ l
 unfolding shown
@@ -61,47 +54,20 @@ pub shown_none : (m : ℕ) (l : List ℕ) → 0 < m → shown m l ≡ []
 unfolding shown
 shown_none m l h = rw (ne_eqb m 0 (λ q. omega arith))
 
-shown-nil : (m : ℕ) → shown m [] ≡ []
-shown-nil m = elim (dec_le m 0) [ yes h ↦ shown_all m [] h | no h ↦ shown_none m [] (omega arith) ]
+-- a sink that prints stays as it is
+told_printing : (s : Sink) (l : List ℕ) → s.mode ≤ 0 → told s l ≡ s
+unfolding told
+told_printing s [] h = refl
+told_printing s (x ∷ l) h = rw (eq-eqb s.mode 0 (omega arith)) (told_printing s l h)
 
-shown-append : (m : ℕ) (a b : List ℕ) → shown m (a ++ b) ≡ shown m a ++ shown m b
-shown-append m a b =
-    elim (dec_le m 0) [
-      | yes h ↦ rw (shown_all m (a ++ b) h, shown_all m a h, shown_all m b h)
-      | no h ↦ let k : 0 < m = omega arith in rw (shown_none m (a ++ b) k, shown_none m a k, shown_none m b k)
-    ]
+pub told-printed : (m : ℕ) (l : List ℕ) → m ≤ 0 → sink m 0 0 0 ≡ told (begun m) l
+unfolding begun
+told-printed m l h = sym (told_printing (sink m 0 0 0) l h)
 
--- ---- a text went to a sink: x is what s then is, and a writer's bytes b are its bytes a and what is shown
-pub record Passed (s x : Sink) (a b : Option (List ℕ)) (l : List ℕ) : Type 0 where
-  pub ok : x ≡ told s l
-  pub bytes : Appends a b (shown s.mode l)
-
-pub passed-none : (s : Sink) (a : Option (List ℕ)) → Passed s s a a []
-passed-none s a = record { ok = unfold told in refl; bytes = subst (Appends a a) (sym (shown-nil s.mode)) (Appends-nil a) }
-
-pub passed-mode : (s x : Sink) (a b : Option (List ℕ)) (l : List ℕ) → Passed s x a b l → x.mode ≡ s.mode
-passed-mode s x a b l f = ap (λ t. t.mode) f.ok ∙ told-mode s l
-
--- one text and then another are one text
-pub passed-append : (s x y : Sink) (a b c : Option (List ℕ)) (l k : List ℕ) → Passed s x a b l → Passed x y b c k → Passed s y a c (l ++ k)
-passed-append s x y a b c l k f g =
-    let m = passed-mode s x a b l f in
-    record {
-      ok = g.ok ∙ rw f.ok (told-append s l k);
-      bytes = rw shown-append (Appends-trans a b c (shown s.mode l) (shown s.mode k) f.bytes (subst (λ n. Appends b c (shown n k)) m g.bytes));
-    }
-
-pub passed_is : (s x : Sink) (a b : Option (List ℕ)) (l k : List ℕ) → Passed s x a b l → l ≡ k → Passed s x a b k
-passed_is s x a b l k f e = subst (Passed s x a b) e f
-
--- ---- what is left of a writer that failed
-pub stopped_is : (a b : Option (List ℕ)) (l k : List ℕ) → Stopped a b l → l ≡ k → Stopped a b k
-stopped_is a b l k f e = subst (Stopped a b) e f
-
--- in a text, it failed in any that goes on after it
-stopped-grown : (a b : Option (List ℕ)) (l k : List ℕ) → Stopped a b l → Stopped a b (l ++ k)
-stopped-grown a b l k f =
-    record { front = f.front; rest = f.rest ++ k; whole = ap (λ t. t ++ k) f.whole ∙ append_assoc f.front f.rest k; bytes = f.bytes }
+-- one that sums is the sums of the text
+pub told-summed : (m : ℕ) (z s : Sums) (l : List ℕ) → 0 < m → z.h1 ≡ 0 → z.h2 ≡ 0 → z.len ≡ 0 → s ≡ summed z l → sink m s.h1 s.h2 s.len ≡ told (begun m) l
+unfolding begun
+told-summed m z s l h a b d f = cc (told_summed m z l h)
 
 -- ---- a piece that is written part by part, d bytes of it so far
 pub write-turn : (a b c : Option (List ℕ)) (l : List ℕ) (d n e : ℕ) → d ≤ length l → n ≤ length (take (length l - d) (drop d l)) → e ≡ d + n → Appends a b (take d l)
@@ -117,72 +83,3 @@ write-kept a b c l d e h q f g = (omega arith, subst (λ i. Appends a c (take i 
 
 pub stopped_at : (a b : Option (List ℕ)) (l : List ℕ) (d : ℕ) → Appends a b (take d l) → Stopped a b l
 stopped_at a b l d f = record { front = take d l; rest = drop d l; whole = sym (take-append-drop d l); bytes = f }
-
--- after one text in another, it failed in both together
-stopped-after : (a b c : Option (List ℕ)) (h k : List ℕ) → Appends a b h → Stopped b c k → Stopped a c (h ++ k)
-stopped-after a b c h k e f =
-    record {
-      front = h ++ f.front;
-      rest = f.rest;
-      whole = ap (λ t. h ++ t) f.whole ∙ sym (append_assoc h f.front f.rest);
-      bytes = Appends-trans a b c h f.front e f.bytes;
-    }
-
-pub shown-stopped : (m : ℕ) (a b : Option (List ℕ)) (l k t : List ℕ) → l ++ k ≡ t → Stopped a b (shown m l) → Stopped a b (shown m t)
-shown-stopped m a b l k t e f = stopped_is a b (shown m l ++ shown m k) (shown m t) (stopped-grown a b (shown m l) (shown m k) f) (sym (shown-append m l k) ∙ ap (shown m) e)
-
-pub passed-stopped : (s x : Sink) (a b c : Option (List ℕ)) (l k : List ℕ) → Passed s x a b l → Stopped b c (shown x.mode k) → Stopped a c (shown s.mode (l ++ k))
-passed-stopped s x a b c l k f g =
-    let mode = passed-mode s x a b l f in
-    stopped_is a c (shown s.mode l ++ shown s.mode k) (shown s.mode (l ++ k))
-    (stopped-after a b c (shown s.mode l) (shown s.mode k) f.bytes (subst (λ n. Stopped b c (shown n k)) mode g))
-    (sym (shown-append s.mode l k))
-
--- ---- what a function answers that may fail
-module _ {E : Type 0} (r : Result Sink E) where
-  pub passed_ok : (s : Sink) (l k : List ℕ) → l ≡ k → IfOk r (λ x. (x ≡ told s l) × Sound x) → IfOk r (λ x. x ≡ told s k)
-  passed_ok s l k e = go r
-    where
-      go : (r : Result Sink E) → IfOk r (λ x. (x ≡ told s l) × Sound x) → IfOk r (λ x. x ≡ told s k)
-      go (Ok x) h = h.0 ∙ ap (told s) e
-      go (Err x) h = h
-
-  pub passed_bytes : (m : ℕ) (a b : Option (List ℕ)) (l k : List ℕ) → l ≡ k → OnOk r (Appends a b (shown m l)) → OnOk r (Appends a b (shown m k))
-  passed_bytes m a b l k e h = subst (λ t. OnOk r (Appends a b (shown m t))) e h
-
-  -- what holds anyhow holds where it failed
-  pub failed : (P : Type 0) → P → OnErr r P
-  failed P h = go r
-    where
-      go : (r : Result Sink E) → OnErr r P
-      go (Ok x) = tt
-      go (Err x) = h
-
-  pub passed_left : (m : ℕ) (a b : Option (List ℕ)) (l k : List ℕ) → l ≡ k → OnErr r (Stopped a b (shown m l)) → OnErr r (Stopped a b (shown m k))
-  passed_left m a b l k e h = subst (λ t. OnErr r (Stopped a b (shown m t))) e h
-
-  -- a text l, and then a text k: t as a whole
-  module _ (s x : Sink) (a b : Option (List ℕ)) (l k t : List ℕ) (f : Passed s x a b l) (e : l ++ k ≡ t) where
-    pub passed-rest_ok : IfOk r (λ y. y ≡ told x k) → IfOk r (λ y. y ≡ told s t)
-    passed-rest_ok = go r
-      where
-        go : (r : Result Sink E) → IfOk r (λ y. y ≡ told x k) → IfOk r (λ y. y ≡ told s t)
-        go (Ok y) h = h ∙ rw f.ok (told-append s l k ∙ ap (told s) e)
-        go (Err y) h = h
-
-    pub passed-rest_bytes : (c : Option (List ℕ)) → OnOk r (Appends b c (shown x.mode k)) → OnOk r (Appends a c (shown s.mode t))
-    passed-rest_bytes c = go r
-      where
-        go : (r : Result Sink E) → OnOk r (Appends b c (shown x.mode k)) → OnOk r (Appends a c (shown s.mode t))
-        go (Ok y) h = (passed_is s (told x k) a c (l ++ k) t (passed-append s x (told x k) a b c l k f (record { ok = refl; bytes = h })) e).bytes
-        go (Err y) h = h
-
-    pub passed-rest_err : OnErr r (x.mode ≡ 0) → OnErr r (s.mode ≡ 0)
-    passed-rest_err h = subst (λ m. OnErr r (m ≡ 0)) (passed-mode s x a b l f) h
-
-    pub passed-rest_left : (c : Option (List ℕ)) → OnErr r (Stopped b c (shown x.mode k)) → OnErr r (Stopped a c (shown s.mode t))
-    passed-rest_left c = go r
-      where
-        go : (r : Result Sink E) → OnErr r (Stopped b c (shown x.mode k)) → OnErr r (Stopped a c (shown s.mode t))
-        go (Ok y) h = h
-        go (Err y) h = subst (λ u. Stopped a c (shown s.mode u)) e (passed-stopped s x a b c l k f h)

@@ -1,32 +1,51 @@
 -- Texts written one after the other, and the parts of an entry's line. Assumes nothing.
 use mathlib.Core.Path.{◌≡◌, refl, sym, ap, ◌∙◌}
-use mathlib.Core.List.{List, [], ◌∷◌, ◌++◌}
+use mathlib.Core.List.{List, [], ◌∷◌, ◌++◌, append-nil, append_assoc}
 use Prim.Native.Nat.{ℕ, ◌+◌, ◌*◌, ◌≤◌, ◌<◌, min}
 use native.Mathlib.Decide.{dec_le}
 use native.Mathlib.Omega.{arith}
-use lib.ListN.{length, take, drop, length-append}
+use lib.ListN.{length, length-append}
 use Rattle.octets.specs.Bytes.{le}
-use Rattle.octets.proofs.Put.{put_eq, put-append}
-use Rattle.paper.specs.Page.{prefix_of, suffix_of, body_bytes}
-use Rattle.paper.specs.Printed.{hex_bytes, hex_key}
-use Rattle.paper.specs.declared.page.Slot.{Slot}
+use Rattle.paper.specs.Page.{body_bytes}
+use Rattle.paper.specs.Printed.{decimal, number_words, hex_bytes, hex_key, entry_line}
 use Rattle.paper.proofs.Same.{body_bytes_long}
-use Rattle.node.proofs.Spelling.{length-prefix_of, length-suffix_of}
-use Rattle.listing.specs.Texts.{Wrote}
+use Rattle.listing.specs.Line.{Line, Adds}
 
--- one text and then another are one text
-pub then : (o a b : List ℕ) (at : ℕ) (m : List ℕ) (i : ℕ) (e : List ℕ) (j : ℕ) → Wrote o at a m i → Wrote m i b e j → Wrote o at (a ++ b) e j
-then o a b at m i e j f g = (g.0 ∙ rw (f.0, f.1) (sym (put-append o at a b)), rw length-append (omega (arith, f.1, g.1)))
+-- one text behind another are one text
+pub adds-then : (a b d : Line) (l k : List ℕ) → Adds a l b → Adds b k d → Adds a (l ++ k) d
+adds-then a b d l k f g = record { text = g.text ∙ rw f.text (append_assoc a.text l k); room = rw length-append (omega (arith, f.room, g.room)) }
 
-take-first : (a b : List ℕ) → take (length a) (a ++ b) ≡ a
-take-first [] b = refl
-take-first (x ∷ a) b = ap (λ l. x ∷ l) (take-first a b)
+pub adds_is : (a b : Line) (l k : List ℕ) → l ≡ k → Adds a l b → Adds a k b
+adds_is a b l k e f = rw (← e) f
 
--- a text at the front is the front
-pub front_is : (o t e : List ℕ) (r : ℕ) → Wrote o 0 t e r → r ≤ length o → take r e ≡ t
-front_is o t e r f h =
-    let n : r ≡ length t = omega (arith, f.1) in
-    rw (f.0, n, put_eq o 0 t (omega arith)) (take-first t (drop (0 + length t) o))
+-- text and room together stay as many
+pub adds-size : (a b : Line) (l : List ℕ) → Adds a l b → length b.text + b.room ≡ length a.text + a.room
+adds-size a b l f = rw (f.text, length-append) (omega (arith, f.room))
+
+-- where no text stood
+pub adds-first : (a b : Line) (t : List ℕ) → a.text ≡ [] → Adds a t b → b.text ≡ t
+adds-first a b t e f = f.text ∙ ap (λ l. l ++ t) e
+
+-- b is the line a with a text l behind it, but for what of that is left
+pub record Left (a : Line) (l : List ℕ) (b : Line) (left : List ℕ) : Type 0 where
+  pub text : a.text ++ l ≡ b.text ++ left
+  pub room : length l + b.room ≡ length left + a.room
+
+pub left-all : (a : Line) (l : List ℕ) → Left a l a l
+left-all a l = record { text = refl; room = refl }
+
+-- some of it is put in
+pub left-less : (a b d : Line) (l k m : List ℕ) → Left a l b (k ++ m) → Adds b k d → Left a l d m
+left-less a b d l k m f g =
+    let n = length-append k m in
+    record { text = f.text ∙ rw g.text (sym (append_assoc b.text k m)); room = omega (arith, n, f.room, g.room) }
+
+-- the last of it is
+pub left-done : (a b d : Line) (l k : List ℕ) → Left a l b k → Adds b k d → Adds a l d
+left-done a b d l k f g = record { text = g.text ∙ sym f.text; room = omega (arith, f.room, g.room) }
+
+pub left-none : (a b : Line) (l : List ℕ) → Left a l b [] → Adds a l b
+left-none a b l f = record { text = sym (f.text ∙ append-nil b.text); room = omega (arith, f.room) }
 
 -- ---- keys in hex
 hex_append : (a b : List ℕ) → hex_bytes (a ++ b) ≡ hex_bytes a ++ hex_bytes b
@@ -47,22 +66,22 @@ unfolding hex_key
 key_some [] h = absurd (omega arith)
 key_some (x ∷ l) h = refl
 
-pub key_hexed : (a b : List ℕ) (n : ℕ) → length (a ++ b) ≡ n → 0 < n → hex_key (a ++ b) ≡ hex_bytes a ++ hex_bytes b
-key_hexed a b n e h = key_some (a ++ b) (omega arith) ∙ hex_append a b
+pub key-hexed : (a b : List ℕ) → 0 < length (a ++ b) → hex_key (a ++ b) ≡ hex_bytes a ++ hex_bytes b
+key-hexed a b h = key_some (a ++ b) h ∙ hex_append a b
 
--- the length of a key that stands on the page
-pub length-key : (p : List ℕ) (n : ℕ) (s : Slot) → 16384 ≤ length p → n ≤ 16256 → 96 + s.offset + body_bytes 4 s.len ≤ length p
-    → length (prefix_of p n ++ suffix_of p s) ≡ n + s.len
-length-key p n s h k l = rw (length-append, length-prefix_of p n h k, length-suffix_of p s l)
+-- the line of an entry: its number and its key, and then its value as the only number of a line
+pub entry-words : (i : ℕ) (k : List ℕ) (v : ℕ) → (decimal i ++ (32 ∷ hex_key k)) ++ number_words (v ∷ []) ≡ entry_line i (record { key = k; value = v })
+unfolding entry_line number_words
+entry-words i k v = sym (append_assoc (decimal i ++ (32 ∷ hex_key k)) (32 ∷ decimal v) (10 ∷ []))
 
 -- a suffix whose payload lies in the body is no longer than it
 pub suffix-most : (n o w : ℕ) → o + (body_bytes 4 n + w) ≤ 16256 → n ≤ 16256
 suffix-most n o w h = elim (dec_le n 4) [ yes l ↦ omega arith | no l ↦ omega (arith, body_bytes_long 4 n (omega arith)) ]
 
--- the hex of bytes that are found to be m, of which there are n
-pub hexed : (l m : List ℕ) (n : ℕ) (o : List ℕ) (at : ℕ) (e : List ℕ) (r : ℕ) → l ≡ m → length m ≡ n
-    → Wrote o at (hex_bytes l) e r × (r ≡ at + 2 * length l) → Wrote o at (hex_bytes m) e r × (r ≡ at + 2 * n)
-hexed l m n o at e r a b h = rw (← b, ← a) h
+pub length-hex : (l : List ℕ) → length (hex_bytes l) ≡ 2 * length l
+unfolding hex_bytes
+length-hex [] = refl
+length-hex (b ∷ l) = omega (arith, length-hex l)
 
 -- the value, read at the width and not at eight
 pub value_is : (w : ℕ) (p : List ℕ) (i at v : ℕ) → w ≤ 8 → i ≡ at → v ≡ le (min w 8) p i → v ≡ le w p at

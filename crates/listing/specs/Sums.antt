@@ -1,12 +1,14 @@
 -- What a sink is after text went to it.
-use Rattle.std.specs.Prelude.{ℕ, ◌+◌, ◌*◌, ◌%◌, ◌<◌, List, [], ◌∷◌, eqb, ◌≡◌, ◌++◌, Option}
+use Rattle.std.specs.Prelude.{ℕ, ◌+◌, ◌*◌, ◌%◌, List, [], ◌∷◌, eqb, ◌≡◌, ◌++◌, Option}
 use Rattle.std.specs.Io.KnownBytes.{Appends}
 use Rattle.keys.specs.Choice.{pick}
 use Rattle.listing.specs.declared.sink.Sink.{Sink}
+use Rattle.listing.specs.declared.sink.Mode.{Mode}
+use Rattle.listing.specs.declared.sink.Mode.TheVariants.{Printed, Summed}
 
--- every sum is below its modulus
-abbrev pub Sound : Sink → Type 0
-Sound s = (s.h1 < 4294967291) × (s.h2 < 4294967279) × (s.len < 4294967296)
+-- 0 is printed
+abbrev pub mode_of : ℕ → Mode
+mode_of m = pick (eqb m 0) Printed Summed
 
 -- a sink from its numbers
 abbrev pub sink : ℕ → ℕ → ℕ → ℕ → Sink

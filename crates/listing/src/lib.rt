@@ -1,8 +1,8 @@
-// The text of the listing: its lines in a buffer, the buffer filled piece by piece, each piece printed or summed.
+// The text of the listing: its lines put into a buffer, and each buffer full printed or summed.
 #![tactic(auto)]
 
-mod digits;
 pub mod lines;
-mod pieces;
 pub mod print;
+mod receiver;
 pub mod sink;
+mod text;

@@ -1,154 +1,82 @@
-// The lines of the listing, each written at a place of a lent buffer. Each function answers the place after its text.
-ghost use Rattle.std.specs.Prelude.{◌≡◌, [], ◌∷◌, ◌++◌, ◌+◌, ◌*◌, ◌≤◌, length};
-ghost use Rattle.paper.specs.Page.{prefix_of, suffix_of, body_bytes};
-ghost use Rattle.paper.specs.Printed.{decimal, number_words, hex_bytes, hex_key, refused_line};
-ghost use Rattle.listing.specs.Texts.{Wrote, verdict_text, space_text, sum_text, line_text};
+// The lines of the listing, each put behind a text.
+ghost use Rattle.std.specs.Prelude.{◌≡◌, ◌++◌, ◌+◌, ◌*◌, ◌≤◌, length};
+ghost use Rattle.paper.specs.Printed.{hex_key, refused_line, entry_line};
+ghost use Rattle.view.specs.Shown.{shown};
+ghost use Rattle.listing.specs.Line.{Adds};
+ghost use Rattle.listing.specs.Texts.{Wrote, verdict_text, space_text, sum_text};
 
-use crate::digits;
 use crate::sink::Sink;
-use node::entry;
-use octets::{runs, value};
-use paper::page::{Header, Slot};
-use view::plain;
-
-// One character.
-fn put_mark(mark: u8, out: &mut [u8], at: usize) -> usize
-    requires { at + 1 ≤ length out.old }
-    ensures { Wrote out.old at (mark ∷ []) out.new result }
-{
-    out[at] = mark;
-    at + 1
-}
-
-// A word.
-fn put_word(word: &[u8], out: &mut [u8], at: usize) -> usize
-    requires { at + length word.now ≤ length out.old }
-    ensures { Wrote out.old at word.now out.new result }
-{
-    runs::copy_in(out, at, word);
-    at + word.len()
-}
-
-// A blank and a number.
-fn put_number(n: u64, out: &mut [u8], at: usize) -> usize
-    requires { at + 21 ≤ length out.old }
-    ensures { Wrote out.old at (32 ∷ decimal n) out.new result × (result ≤ at + 21) }
-{
-    let a = put_mark(32, out, at);
-    digits::put_decimal(n, out, a)
-}
-
-// The last number of a line, and its end.
-fn end_one(n: u64, out: &mut [u8], at: usize) -> usize
-    requires { at + 22 ≤ length out.old }
-    ensures { Wrote out.old at (number_words (n ∷ [])) out.new result × (result ≤ at + 22) }
-{
-    let a = put_number(n, out, at);
-    put_mark(10, out, a)
-}
-
-// The last two numbers of a line, and its end.
-fn end_two(m: u64, n: u64, out: &mut [u8], at: usize) -> usize
-    requires { at + 43 ≤ length out.old }
-    ensures { Wrote out.old at (number_words (m ∷ n ∷ [])) out.new result × (result ≤ at + 43) }
-{
-    let a = put_number(m, out, at);
-    end_one(n, out, a)
-}
+use crate::text::Text;
+use octets::runs;
+use paper::page::Header;
+use view::key::KeyView;
 
 // The line of a refusal.
-pub(crate) fn refused_line(n: u8, out: &mut [u8], at: usize) -> usize
-    requires { at + 29 ≤ length out.old }
-    ensures { Wrote out.old at (refused_line n) out.new result × (result ≤ at + 29) }
+pub(crate) fn refused_line(text: &mut Text, n: u8)
+    requires { 29 ≤ text.old.room }
+    ensures { Adds text.old (refused_line n) text.new }
 {
-    let a = put_word(b"refused", out, at);
-    end_one(n as u64, out, a)
+    text.word(b"refused");
+    text.numbers(&[n as u64]);
 }
 
 // The line of the two verdicts.
-pub(crate) fn verdict_line(layout: u8, fit: u8, out: &mut [u8], at: usize) -> usize
-    requires { at + 50 ≤ length out.old }
-    ensures { Wrote out.old at (verdict_text layout fit) out.new result × (result ≤ at + 50) }
+pub(crate) fn verdict_line(text: &mut Text, layout: u8, fit: u8)
+    requires { 50 ≤ text.old.room }
+    ensures { Adds text.old (verdict_text layout fit) text.new × (text.old.room ≤ text.new.room + 50) }
 {
-    let a = put_word(b"verdict", out, at);
-    end_two(layout as u64, fit as u64, out, a)
+    text.word(b"verdict");
+    text.numbers(&[layout as u64, fit as u64]);
 }
 
 // The line of the space numbers.
-pub(crate) fn space_line(h: Header, out: &mut [u8], at: usize) -> usize
-    requires { (at + 111 ≤ length out.old) × (h.start ≤ h.end) × (h.end ≤ 16352) × (h.effective + h.end ≤ 16352 + h.start) }
-    ensures { Wrote out.old at (space_text h) out.new result × (result ≤ at + 111) }
+pub(crate) fn space_line(text: &mut Text, h: Header)
+    requires { (111 ≤ text.old.room) × (h.start ≤ h.end) × (h.end ≤ 16352) × (h.effective + h.end ≤ 16352 + h.start) }
+    ensures { Adds text.old (space_text h) text.new }
 {
     let start = h.start as u64;
     let end = h.end as u64;
     let effective = h.effective as u64;
     let free = end - start;
-    let a = put_word(b"space", out, at);
-    let b = put_number(start, out, a);
-    let c = put_number(end, out, b);
-    let d = put_number(free, out, c);
-    end_two(effective, 16352 - free - effective, out, d)
+    text.word(b"space");
+    text.numbers(&[start, end, free, effective, 16352 - free - effective]);
 }
 
-// The line of a text's sums.
+// The line of a text's sums, written to `out` from `at` on; answers the place after it.
 pub fn sum_line(s: Sink, out: &mut [u8], at: usize) -> usize
     requires { at + 67 ≤ length out.old }
     ensures { Wrote out.old at (sum_text s) out.new result × (result ≤ at + 67) }
 {
-    let a = put_word(b"sum", out, at);
-    let b = put_number(s.len, out, a);
-    end_two(s.h1, s.h2, out, b)
+    let mut bytes = [0; 67];
+    let mut text = Text::new(&mut bytes);
+    text.word(b"sum");
+    text.numbers(&[s.len, s.h1, s.h2]);
+    let line = text.as_slice();
+    runs::copy_in(out, at, line);
+    at + line.len()
 }
 
-// The suffix of a slot in hex, where it is short.
-fn put_short(p: &[u8], prefix_len: u16, s: Slot, out: &mut [u8], at: usize) -> usize
-    requires { (16384 ≤ length p.now) × (prefix_len ≤ 16256) × (s.len ≤ 4) × (at + 2 * s.len ≤ length out.old) × (96 + s.offset + body_bytes 4 s.len ≤ length p.now) }
-    ensures { Wrote out.old at (hex_bytes (suffix_of p.now s)) out.new result × (result ≡ at + 2 * s.len) }
+// A key in hex, prefix and suffix; "-" where both are empty.
+fn put_key(text: &mut Text, key: &KeyView)
+    requires { 2 * length (shown key.now) + 1 ≤ text.old.room }
+    ensures { Adds text.old (hex_key (shown key.now)) text.new × (text.old.room ≤ text.new.room + (2 * length (shown key.now) + 1)) }
 {
-    let four = plain::short_of(p, prefix_len, s);
-    digits::put_hex(&four[..s.len as usize], out, at)
-}
-
-// The suffix of a slot in hex.
-fn put_suffix(p: &[u8], prefix_len: u16, s: Slot, out: &mut [u8], at: usize) -> usize
-    requires { (16384 ≤ length p.now) × (prefix_len ≤ 16256) × (at + 2 * s.len ≤ length out.old) × (96 + s.offset + body_bytes 4 s.len ≤ length p.now) }
-    ensures { Wrote out.old at (hex_bytes (suffix_of p.now s)) out.new result × (result ≡ at + 2 * s.len) }
-{
-    if s.len <= 4 {
-        return put_short(p, prefix_len, s, out, at);
+    let suffix = key.shown_suffix();
+    if key.prefix.len() + suffix.len() == 0 {
+        text.push(b'-');
+    } else {
+        text.hex(key.prefix);
+        text.hex(suffix);
     }
-    digits::put_hex(plain::suffix_of(p, prefix_len, s), out, at)
 }
 
-// The key of a slot in hex, prefix and suffix; "-" where both are empty.
-fn put_key(p: &[u8], prefix_len: u16, s: Slot, out: &mut [u8], at: usize) -> usize
-    requires { (16384 ≤ length p.now) × (prefix_len ≤ 16256) × (at + 2 * (prefix_len + s.len) + 1 ≤ length out.old) × (96 + s.offset + body_bytes 4 s.len ≤ length p.now) }
-    ensures { Wrote out.old at (hex_key (prefix_of p.now prefix_len ++ suffix_of p.now s)) out.new result × (result ≤ at + 2 * (prefix_len + s.len) + 1) }
+// The line of an entry: its number, its key and its value.
+pub(crate) fn entry_line(text: &mut Text, i: usize, key: &KeyView, value: u64)
+    requires { 2 * length (shown key.now) + 64 ≤ text.old.room }
+    ensures { Adds text.old (entry_line i (record { key = shown key.now; value = value })) text.new }
 {
-    if (prefix_len as usize) + (s.len as usize) == 0 {
-        return put_mark(45, out, at);
-    }
-    let a = digits::put_hex(plain::prefix_of(p, prefix_len, s), out, at);
-    put_suffix(p, prefix_len, s, out, a)
-}
-
-// The line of entry `i`, which is that of slot `s`.
-pub(crate) fn entry_line(
-    p: &[u8],
-    prefix_len: u16,
-    width: u8,
-    i: usize,
-    s: Slot,
-    out: &mut [u8],
-    at: usize,
-) -> usize
-    requires { (16384 ≤ length p.now) × (width ≤ 8) × (prefix_len ≤ 16256) × (s.offset + (body_bytes 4 s.len + width) ≤ 16256) × (at + 65100 ≤ length out.old) }
-    ensures { Wrote out.old at (line_text width p.now prefix_len i s) out.new result × (result ≤ at + 65100) }
-{
-    let v = value::read_value(p, entry::value_at(s), width as usize);
-    let a = digits::put_decimal(i as u64, out, at);
-    let b = put_mark(32, out, a);
-    let c = put_key(p, prefix_len, s, out, b);
-    let d = put_number(v, out, c);
-    put_mark(10, out, d)
+    text.decimal(i as u64);
+    text.push(b' ');
+    put_key(text, key);
+    text.numbers(&[value]);
 }

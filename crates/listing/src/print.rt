@@ -1,23 +1,28 @@
 // What the listing program prints for an input: the verdicts, the space numbers and the entries. An error of any function here
 // is the writer's: none comes where the text is summed.
-ghost use Rattle.std.specs.Prelude.{◌≡◌, true, length, IfOk, OnOk, OnErr};
+ghost use Rattle.std.specs.Prelude.{◌≡◌, ◌+◌, ◌<◌, ◌≤◌, true, length, Ok, IfOk, IfErr, OnOk, OnErr};
 ghost use Rattle.std.specs.Io.KnownBytes.{Appends};
 ghost use Rattle.keys.specs.Choice.{pick};
-ghost use Rattle.paper.specs.Calls.{is_width, layout_verdict, fit_verdict};
+ghost use Rattle.paper.specs.Calls.{is_width};
 ghost use Rattle.paper.specs.Verdicts.{fit_of, layout_of};
-ghost use Rattle.paper.specs.Printed.{page_text, printed};
+ghost use Rattle.paper.specs.Printed.{page_text, refused_line, printed};
 ghost use Rattle.listing.specs.Texts.{lines_text};
-ghost use Rattle.listing.specs.Pieces.{Listable, refusal_of, verdict_number};
-ghost use Rattle.listing.specs.Sums.{Sound, begun, told, shown, Stopped};
+ghost use Rattle.listing.specs.Pieces.{Listable};
+ghost use Rattle.listing.specs.Inputs.{number_of};
+ghost use Rattle.listing.specs.Line.{Fresh};
+ghost use Rattle.listing.specs.Sums.{begun, told, shown, Stopped};
 
-use crate::sink::Sink;
-use crate::{lines, pieces, sink};
-use node::{admit, header};
-use paper::answers::Verdict;
+use crate::lines;
+use crate::receiver::{Printer, Receiver, Sums};
+use crate::sink::{Mode, Sink};
+use crate::text::Text;
+use node::{admit, entry, header};
+use octets::value;
 use paper::page::Header;
 use std::io;
 use std::io::Write;
 use verdict::{fit, layout};
+use view::key::KeyView;
 
 // Prints what the input asks for, a width byte and a page (mode 0), or sums it up (any other mode).
 pub fn print<W: Write>(to: &mut W, input: &[u8], mode: u8) -> io::Result<Sink>
@@ -26,121 +31,136 @@ pub fn print<W: Write>(to: &mut W, input: &[u8], mode: u8) -> io::Result<Sink>
     ensures err { OnErr result (mode ≡ 0) }
     ensures left { OnErr result (Stopped (W.contents to.old) (W.contents to.new) (shown mode (printed input.now))) }
 {
-    let mut out = [0u8; 131072];
-    print_input(to, sink::begin(mode), input, &mut out)
-}
-
-// Prints for an input by way of `out`.
-fn print_input<W: Write>(to: &mut W, sink: Sink, input: &[u8], out: &mut [u8]) -> io::Result<Sink>
-    requires { Sound sink × (length out.old ≡ 131072) }
-    ensures ok { IfOk result (λ s. s ≡ told sink (printed input.now)) }
-    ensures bytes { OnOk result (Appends (W.contents to.old) (W.contents to.new) (shown sink.mode (printed input.now))) }
-    ensures err { OnErr result (sink.mode ≡ 0) }
-    ensures left { OnErr result (Stopped (W.contents to.old) (W.contents to.new) (shown sink.mode (printed input.now))) }
-{
-    let r = refusal(input);
-    if 0 < r {
-        let end = lines::refused_line(r, out, 0);
-        return sink::emit(to, sink, &out[..end]);
+    match Mode::from(mode) {
+        Mode::Printed => print_input(&mut Printer { to }, input)?,
+        Mode::Summed => return sum_up(input, mode),
     }
-    let width = input[0];
-    let p = &input[1..];
-    let layout = layout::layout_verdict(p, width);
-    let fit = fit::fit_verdict(p, width);
-    print_judged(to, sink, p, width, layout, fit, out)
+    Ok(Sink {
+        mode,
+        h1: 0,
+        h2: 0,
+        len: 0,
+    })
 }
 
-// 1 for an input that is no width byte and page, 2 for a bad width, else 0.
-fn refusal(input: &[u8]) -> u8
-    ensures { result ≡ refusal_of input.now }
+// Sums up what is printed for an input.
+fn sum_up(input: &[u8], mode: u8) -> io::Result<Sink>
+    requires { 0 < mode }
+    ensures { result ≡ Ok (told (begun mode) (printed input.now)) }
+{
+    let mut sums = Sums::default();
+    print_input(&mut sums, input)?;
+    Ok(Sink {
+        mode,
+        h1: sums.h1 as u64,
+        h2: sums.h2 as u64,
+        len: sums.len as u64,
+    })
+}
+
+// Tells a receiver what is printed for an input.
+fn print_input<T: Receiver>(to: &mut T, input: &[u8]) -> io::Result<()>
+    ensures ok { OnOk result (T.takes to.old (printed input.now) to.new) }
+    ensures left { OnErr result (T.stops to.old (printed input.now) to.new) }
+{
+    let mut bytes = [0; 131072];
+    let mut text = Text::new(&mut bytes);
+    match page_of(input) {
+        Ok(page) => {
+            let layout = layout::layout_verdict(page.bytes, page.width).unwrap_or(false);
+            let fit = fit::fit_verdict(page.bytes, page.width).unwrap_or(0);
+            page.print_page(to, layout as u8, fit, &mut text)
+        }
+        Err(refused) => {
+            lines::refused_line(&mut text, refused.number());
+            to.take(text.as_slice())
+        }
+    }
+}
+
+// A page and the width of its values.
+#[derive(Clone, Copy)]
+struct Page<'a> {
+    bytes: &'a [u8],
+    width: u8,
+    ghost whole: { length bytes.now ≡ 16384 },
+    ghost known: { is_width width ≡ true },
+}
+
+// Why an input is refused: it is no width byte and page, or its width is bad.
+#[derive(Clone, Copy)]
+enum Refused {
+    Length = 1,
+    Width = 2,
+}
+
+impl Refused {
+    // What the line of the refusal shows.
+    fn number(self) -> u8
+        ensures { result ≡ number_of self }
+    {
+        self as u8
+    }
+}
+
+// The page of an input, or why the input is refused.
+fn page_of(input: &[u8]) -> Result<Page<'_>, Refused>
+    ensures ok { IfOk result (λ page. page_text page.width page.bytes.now ≡ printed input.now) }
+    ensures err { IfErr result (λ r. refused_line (number_of r) ≡ printed input.now) }
 {
     if input.len() != 16385 {
-        return 1;
+        return Err(Refused::Length);
     }
-    if !admit::known_width(input[0]) {
-        return 2;
+    let width = input[0];
+    if !admit::known_width(width) {
+        return Err(Refused::Width);
     }
-    0
+    Ok(Page {
+        bytes: &input[1..],
+        width,
+    })
 }
 
-// The number of a verdict.
-fn number(v: Verdict) -> u8
-    ensures { result ≡ verdict_number v }
-{
-    match v {
-        Verdict::Is(n) => n,
-        Verdict::Refused(_) => 0,
+impl Page<'_> {
+    // Tells the page by the numbers of its verdicts. Nothing follows the first line if the page is not fit.
+    fn print_page<T: Receiver>(
+        &self,
+        to: &mut T,
+        layout: u8,
+        fit: u8,
+        text: &mut Text,
+    ) -> io::Result<()>
+        requires { (layout ≡ pick (layout_of self.now.width self.now.bytes.now) 1 0) × (fit ≡ fit_of self.now.width self.now.bytes.now) × Fresh text.old 131072 }
+        ensures ok { OnOk result (T.takes to.old (page_text self.now.width self.now.bytes.now) to.new) }
+        ensures left { OnErr result (T.stops to.old (page_text self.now.width self.now.bytes.now) to.new) }
+    {
+        lines::verdict_line(text, layout, fit);
+        if 0 < fit {
+            return to.take(text.as_slice());
+        }
+        let h = header::read_header(self.bytes);
+        lines::space_line(text, h);
+        to.take(text.as_slice())?;
+        self.print_entries(to, h, text)
     }
-}
 
-// Prints a page by its two verdicts.
-fn print_judged<W: Write>(
-    to: &mut W,
-    sink: Sink,
-    p: &[u8],
-    width: u8,
-    layout: Verdict,
-    fit: Verdict,
-    out: &mut [u8],
-) -> io::Result<Sink>
-    requires { (length p.now ≡ 16384) × (is_width width ≡ true) × (layout ≡ layout_verdict width p.now) × (fit ≡ fit_verdict width p.now) × (length out.old ≡ 131072) × Sound sink }
-    ensures ok { IfOk result (λ s. s ≡ told sink (page_text width p.now)) }
-    ensures bytes { OnOk result (Appends (W.contents to.old) (W.contents to.new) (shown sink.mode (page_text width p.now))) }
-    ensures err { OnErr result (sink.mode ≡ 0) }
-    ensures left { OnErr result (Stopped (W.contents to.old) (W.contents to.new) (shown sink.mode (page_text width p.now))) }
-{
-    print_page(to, sink, p, width, number(layout), number(fit), out)
-}
-
-// Prints a page by the numbers of its verdicts. Nothing follows the first line if the page is not fit.
-fn print_page<W: Write>(
-    to: &mut W,
-    sink: Sink,
-    p: &[u8],
-    width: u8,
-    layout: u8,
-    fit: u8,
-    out: &mut [u8],
-) -> io::Result<Sink>
-    requires { (length p.now ≡ 16384) × (is_width width ≡ true) × (layout ≡ pick (layout_of width p.now) 1 0) × (fit ≡ fit_of width p.now) × (length out.old ≡ 131072) × Sound sink }
-    ensures ok { IfOk result (λ s. s ≡ told sink (page_text width p.now)) }
-    ensures bytes { OnOk result (Appends (W.contents to.old) (W.contents to.new) (shown sink.mode (page_text width p.now))) }
-    ensures err { OnErr result (sink.mode ≡ 0) }
-    ensures left { OnErr result (Stopped (W.contents to.old) (W.contents to.new) (shown sink.mode (page_text width p.now))) }
-{
-    let end = lines::verdict_line(layout, fit, out, 0);
-    if 0 < fit {
-        return sink::emit(to, sink, &out[..end]);
+    // Tells the lines of all entries, as many at a time as the text has room for: none is longer than 65,100 bytes.
+    fn print_entries<T: Receiver>(&self, to: &mut T, h: Header, text: &mut Text) -> io::Result<()>
+        requires { Listable self.now.width self.now.bytes.now h.count h.prefix_len × (65100 ≤ length text.old.text + text.old.room) }
+        ensures ok { OnOk result (T.takes to.old (lines_text self.now.width self.now.bytes.now h.prefix_len 0 h.count) to.new) }
+        ensures left { OnErr result (T.stops to.old (lines_text self.now.width self.now.bytes.now h.prefix_len 0 h.count) to.new) }
+    {
+        text.clear();
+        for i in 0..h.count as usize {
+            if text.room() < 65100 {
+                to.take(text.as_slice())?;
+                text.clear();
+            }
+            let slot = header::read_slot(self.bytes, 96 + 8 * i);
+            let key = KeyView::new(self.bytes, h.prefix_len, slot);
+            let value = value::read_value(self.bytes, entry::value_at(slot), self.width as usize);
+            lines::entry_line(text, i, &key, value);
+        }
+        to.take(text.as_slice())
     }
-    let h = header::read_header(p);
-    let after = lines::space_line(h, out, end);
-    let front = sink::emit(to, sink, &out[..after])?;
-    print_entries(to, front, p, h, width, out)
-}
-
-// Prints the lines of all entries.
-fn print_entries<W: Write>(
-    to: &mut W,
-    sink: Sink,
-    p: &[u8],
-    h: Header,
-    width: u8,
-    out: &mut [u8],
-) -> io::Result<Sink>
-    requires { Listable width p.now h.count h.prefix_len × (length out.old ≡ 131072) × Sound sink }
-    ensures ok { IfOk result (λ s. s ≡ told sink (lines_text width p.now h.prefix_len 0 h.count)) }
-    ensures bytes { OnOk result (Appends (W.contents to.old) (W.contents to.new) (shown sink.mode (lines_text width p.now h.prefix_len 0 h.count))) }
-    ensures err { OnErr result (sink.mode ≡ 0) }
-    ensures left { OnErr result (Stopped (W.contents to.old) (W.contents to.new) (shown sink.mode (lines_text width p.now h.prefix_len 0 h.count))) }
-{
-    let count = h.count as usize;
-    let mut sent = sink;
-    let mut left = count;
-    while 0 < left {
-        let f = pieces::fill(p, h, width, count - left, out);
-        let end = f.end;
-        sent = sink::emit(to, sent, &out[..end])?;
-        left = count - f.next;
-    }
-    Ok(sent)
 }

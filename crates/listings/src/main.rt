@@ -4,9 +4,8 @@
 // ends the program, as does, with the error, a read or a write that fails.
 #![tactic(auto)]
 
-use listing::sink::Sink;
+use listing::sink::{Mode, Sink};
 use listing::{lines, print};
-use octets::number;
 use std::io;
 use std::io::{Read, Write};
 
@@ -36,24 +35,25 @@ fn serve<R: Read, W: Write>(from: &mut R, to: &mut W, input: &mut [u8]) -> io::R
     if got < 5 {
         return cut(to);
     }
-    let n = number::read_u32(&head, 1) as usize;
-    if input.len() < n {
+    let [mode, a, b, c, d] = head;
+    let len = u32::from_le_bytes([a, b, c, d]) as usize;
+    let Some(record) = input.get_mut(..len) else {
+        return cut(to);
+    };
+    if reading::read_full(from, record)? < len {
         return cut(to);
     }
-    if reading::read_full(from, &mut input[..n])? < n {
-        return cut(to);
-    }
-    answer(to, &input[..n], head[0])?;
+    answer(to, record, mode)?;
     Ok(true)
 }
 
 // Answers a record.
 fn answer<W: Write>(to: &mut W, input: &[u8], mode: u8) -> io::Result<()> {
     let sink = print::print(to, input, mode)?;
-    if 0 < mode {
-        return tell(to, sink);
+    match Mode::from(mode) {
+        Mode::Printed => Ok(()),
+        Mode::Summed => tell(to, sink),
     }
-    Ok(())
 }
 
 // Writes the line of a text's sums.

@@ -15,13 +15,12 @@ use Rattle.paper.specs.Calls.{key_at, copy_checks, copy_of, copy_buffer}
 use Rattle.paper.specs.declared.page.Slot.{Slot}
 use Rattle.paper.specs.declared.refusal.Refusal.{Refusal}
 use Rattle.paper.specs.declared.refusal.Refusal.TheVariants.{BufferLength}
-use Rattle.paper.specs.declared.answers.Copied.TheVariants.{Bytes as Copied-as-Bytes, Refused as Copied-as-Refused}
 use Rattle.node.specs.Admit.{opened_of}
-use Rattle.node.specs.declared.slots.SlotRead.TheVariants.{Is as Slot-as-Is, Refused as Slot-as-Refused}
 use Rattle.node.proofs.Entries.{Entered, entered, opened-judge, shut-judge}
 use Rattle.node.proofs.Spelling.{length-prefix_of, length-suffix_of}
+use Rattle.std.specs.Prelude.{Ok, Err}
 
-module _ (w : ℕ) (p : List ℕ) (i : ℕ) (s : Slot) (e : opened_of w p i ≡ Slot-as-Is s) where
+module _ (w : ℕ) (p : List ℕ) (i : ℕ) (s : Slot) (e : opened_of w p i ≡ Ok s) where
   abbrev E : Entered w p i s
   E = entered w p i s e
 
@@ -58,20 +57,20 @@ module _ (w : ℕ) (p : List ℕ) (i : ℕ) (s : Slot) (e : opened_of w p i ≡ 
   copy-by out a r t l = opened-judge w p i s e (check (roomy out) BufferLength ∷ []) a r ∙ rw l
 
   module _ (m : ℕ) (f : m ≡ le 2 p 46) (out : List ℕ) (n : ℕ) (k : n ≡ m + s.len) where
-    pub copy-short : length out < n → (Copied-as-Refused BufferLength ≡ copy_of w p i out) × (out ≡ copy_buffer w p i out)
+    pub copy-short : length out < n → (Err BufferLength ≡ copy_of w p i out) × (out ≡ copy_buffer w p i out)
     unfolding copy_of copy_buffer
     copy-short l =
         let t : roomy out ≡ false = rw (key-length m f) (lt-leb (m + s.len) (length out) (omega arith)) in
-        (sym (copy-by out (Copied-as-Bytes (length key)) Copied-as-Refused false t), sym (copy-by out (put out 0 key) (λ r. out) false t))
+        (sym (copy-by out (Ok (length key)) Err false t), sym (copy-by out (put out 0 key) (λ r. out) false t))
 
-    pub copy_done : n ≤ length out → (Copied-as-Bytes n ≡ copy_of w p i out) × (put out 0 (prefix_of p m ++ suffix_of p s) ≡ copy_buffer w p i out)
+    pub copy_done : n ≤ length out → (Ok n ≡ copy_of w p i out) × (put out 0 (prefix_of p m ++ suffix_of p s) ≡ copy_buffer w p i out)
     unfolding copy_of copy_buffer
     copy_done l =
         let t : roomy out ≡ true = rw (key-length m f) (le-leb (m + s.len) (length out) (omega arith)) in (
-          sym (copy-by out (Copied-as-Bytes (length key)) Copied-as-Refused true t ∙ ap Copied-as-Bytes (key-length m f ∙ sym k)),
+          sym (copy-by out (Ok (length key)) Err true t ∙ ap Ok (key-length m f ∙ sym k)),
           sym (copy-by out (put out 0 key) (λ r. out) true t ∙ ap (put out 0) (key-is m f)),
         )
 
-pub copy_shut : (w : ℕ) (p : List ℕ) (i : ℕ) (out : List ℕ) (q : Refusal) → opened_of w p i ≡ Slot-as-Refused q → (Copied-as-Refused q ≡ copy_of w p i out) × (out ≡ copy_buffer w p i out)
+pub copy_shut : (w : ℕ) (p : List ℕ) (i : ℕ) (out : List ℕ) (q : Refusal) → opened_of w p i ≡ Err q → (Err q ≡ copy_of w p i out) × (out ≡ copy_buffer w p i out)
 unfolding copy_of copy_buffer copy_checks
-copy_shut w p i out q e = (sym (shut-judge w p i q e _ _ Copied-as-Refused), sym (shut-judge w p i q e _ _ (λ (r : Refusal). out)))
+copy_shut w p i out q e = (sym (shut-judge w p i q e _ _ Err), sym (shut-judge w p i q e _ _ (λ (r : Refusal). out)))

@@ -17,14 +17,13 @@ use Rattle.paper.specs.Refusals.{Check, judge}
 use Rattle.paper.specs.Calls.{is_width, entry_tests, read_entry}
 use Rattle.paper.specs.declared.page.Slot.{Slot}
 use Rattle.paper.specs.declared.refusal.Refusal.{Refusal}
-use Rattle.paper.specs.declared.answers.EntryRead.TheVariants.{Is as Entry-as-Is, Refused as Entry-as-Refused}
 use Rattle.paper.proofs.Lists.{both_parts}
 use Rattle.paper.proofs.Sorted.{never}
 use Rattle.paper.proofs.Fit.{Lie, within_fact, Rules, rules}
-use Rattle.paper.proofs.Holding.{Hold, judge_hold, hold_judge, refused-judge, judge-append}
-use Rattle.node.specs.Admit.{admit_checks, admits_of, why_refused, slot_checks, slot_read_of, opened_of}
-use Rattle.node.specs.declared.slots.SlotRead.TheVariants.{Is as Slot-as-Is, Refused as Slot-as-Refused}
-use Rattle.node.proofs.Admits.{admitted-judge, refused-admit, admits-is, admits-not, slot-not, slot-refused_is}
+use Rattle.paper.proofs.Holding.{Hold, judge_hold, answer_holds, refused-judge, judge-append}
+use Rattle.node.specs.Admit.{admit_checks, admit_of, slot_checks, slot_read_of, opened_of}
+use Rattle.node.proofs.Admits.{admitted-judge, refused-admit}
+use Rattle.std.specs.Prelude.{Ok, Err}
 
 -- a known width is at most 8
 pub width_whole : (w : ℕ) → is_width w ≡ true → min w 8 ≡ w
@@ -44,13 +43,13 @@ module _ (w : ℕ) (p : List ℕ) (i : ℕ) where
   split a r = refl
 
   -- ---- the page's tests alone, then the slot by numbers that were read
-  pub open-refused : admits_of w p 0 ≡ false → opened_of w p i ≡ Slot-as-Refused (why_refused w p 0)
+  pub open-refused : (q : Refusal) → admit_of w p 0 ≡ Err q → opened_of w p i ≡ Err q
   unfolding opened_of
-  open-refused e = split (Slot-as-Is (slot_of p i)) Slot-as-Refused ∙ refused-admit w p 0 (why_refused w p 0) (admits-not w p 0 e) _ Slot-as-Refused
+  open-refused q e = split (Ok (slot_of p i)) Err ∙ refused-admit w p 0 q e _ Err
 
-  pub open_is : (count end : ℕ) → admits_of w p 0 ≡ true → count ≡ le 2 p 2 → end ≡ le 2 p 6 → slot_read_of w p count end i ≡ opened_of w p i
+  pub open_is : (count end : ℕ) → admit_of w p 0 ≡ Ok tt → count ≡ le 2 p 2 → end ≡ le 2 p 6 → slot_read_of w p count end i ≡ opened_of w p i
   unfolding opened_of slot_read_of numbers_of
-  open_is count end e k f = rw (k, f) (sym (split (Slot-as-Is (slot_of p i)) Slot-as-Refused ∙ admitted-judge w p 0 (header_of p) (admits-is w p 0 e) _ Slot-as-Refused))
+  open_is count end e k f = rw (k, f) (sym (split (Ok (slot_of p i)) Err ∙ admitted-judge w p 0 e _ Err))
 
   -- ---- what is known of an entry that may be read
   pub record Entered (s : Slot) : Type 0 where
@@ -60,15 +59,15 @@ module _ (w : ℕ) (p : List ℕ) (i : ℕ) where
     pub rules : Rules (frame_of p) (numbers_of p)
     pub payload : Lie (numbers_of p).end (slot_payload w s)
 
-  holds : (s : Slot) → opened_of w p i ≡ Slot-as-Is s → Hold (entry_tests w p i)
+  holds : (s : Slot) → opened_of w p i ≡ Ok s → Hold (entry_tests w p i)
   unfolding opened_of
-  holds s e = hold_judge (entry_tests w p i) (Slot-as-Is (slot_of p i)) (Slot-as-Is s) Slot-as-Refused (λ q k. slot-not s q (sym k)) e
+  holds s e = answer_holds (entry_tests w p i) (slot_of p i) s e
 
-  opened-same : (s : Slot) → opened_of w p i ≡ Slot-as-Is s → opened_of w p i ≡ Slot-as-Is (slot_of p i)
+  opened-same : (s : Slot) → opened_of w p i ≡ Ok s → opened_of w p i ≡ Ok (slot_of p i)
   unfolding opened_of
-  opened-same s e = judge_hold (entry_tests w p i) (Slot-as-Is (slot_of p i)) Slot-as-Refused (holds s e)
+  opened-same s e = judge_hold (entry_tests w p i) (Ok (slot_of p i)) Err (holds s e)
 
-  pub entered : (s : Slot) → opened_of w p i ≡ Slot-as-Is s → Entered s
+  pub entered : (s : Slot) → opened_of w p i ≡ Ok s → Entered s
   unfolding all
   entered s e =
       let a = both_parts (eqb (length p) 16384) _ (holds s e) in
@@ -87,28 +86,28 @@ module _ (w : ℕ) (p : List ℕ) (i : ℕ) where
       }
 
   -- a call with these tests and others goes on to the others, or is refused alike
-  pub opened-judge : (s : Slot) → opened_of w p i ≡ Slot-as-Is s → {A : Type 0} (cs : List Check) (a : A) (r : Refusal → A) → judge (entry_tests w p i ++ cs) a r ≡ judge cs a r
+  pub opened-judge : (s : Slot) → opened_of w p i ≡ Ok s → {A : Type 0} (cs : List Check) (a : A) (r : Refusal → A) → judge (entry_tests w p i ++ cs) a r ≡ judge cs a r
   opened-judge s e cs a r = judge-append (entry_tests w p i) cs a r ∙ judge_hold (entry_tests w p i) (judge cs a r) r (holds s e)
 
-  pub shut-judge : (q : Refusal) → opened_of w p i ≡ Slot-as-Refused q → {A : Type 0} (cs : List Check) (a : A) (r : Refusal → A) → judge (entry_tests w p i ++ cs) a r ≡ r q
+  pub shut-judge : (q : Refusal) → opened_of w p i ≡ Err q → {A : Type 0} (cs : List Check) (a : A) (r : Refusal → A) → judge (entry_tests w p i ++ cs) a r ≡ r q
   unfolding opened_of
   shut-judge q e cs a r =
       judge-append (entry_tests w p i) cs a r
-      ∙ refused-judge (entry_tests w p i) (Slot-as-Is (slot_of p i)) Slot-as-Refused q (λ x k. slot-refused_is x q k) (slot-not (slot_of p i) q) e (judge cs a r) r
+      ∙ refused-judge (entry_tests w p i) (slot_of p i) q e (judge cs a r) r
 
   -- ---- the entry
-  pub entry-shut : (q : Refusal) → opened_of w p i ≡ Slot-as-Refused q → read_entry w p i ≡ Entry-as-Refused q
+  pub entry-shut : (q : Refusal) → opened_of w p i ≡ Err q → read_entry w p i ≡ Err q
   unfolding read_entry
-  entry-shut q e = shut-judge q e [] (Entry-as-Is (slot_of p i) (le w p (value_at (slot_of p i)))) Entry-as-Refused
+  entry-shut q e = shut-judge q e [] (Ok (record { slot = slot_of p i; value = le w p (value_at (slot_of p i)) })) Err
 
   -- its value stands within the page
-  pub value-within : (s : Slot) → opened_of w p i ≡ Slot-as-Is s → (at : ℕ) → at ≡ value_at s → at + w ≤ length p
+  pub value-within : (s : Slot) → opened_of w p i ≡ Ok s → (at : ℕ) → at ≡ value_at s → at + w ≤ length p
   value-within s e at k = let E = entered s e in let l = E.payload.1 in omega (arith, E.size, l, k)
 
   -- and is read whole
-  pub entry-is : (s : Slot) (at v : ℕ) → opened_of w p i ≡ Slot-as-Is s → at ≡ value_at s → v ≡ le (min w 8) p at → read_entry w p i ≡ Entry-as-Is s v
+  pub entry-is : (s : Slot) (at v : ℕ) → opened_of w p i ≡ Ok s → at ≡ value_at s → v ≡ le (min w 8) p at → read_entry w p i ≡ Ok (record { slot = s; value = v })
   unfolding read_entry judge
   entry-is s at v e k f =
       let E = entered s e in
       let width : min w 8 ≡ w = width_whole w E.width in
-      opened-judge s e [] (Entry-as-Is (slot_of p i) (le w p (value_at (slot_of p i)))) Entry-as-Refused ∙ sym (rw (f, width, k, ← E.slot))
+      opened-judge s e [] (Ok (record { slot = slot_of p i; value = le w p (value_at (slot_of p i)) })) Err ∙ sym (rw (f, width, k, ← E.slot))

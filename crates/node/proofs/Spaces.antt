@@ -13,11 +13,10 @@ use Rattle.paper.specs.Refusals.{judge}
 use Rattle.paper.specs.Calls.{is_width, space_read, need_of, forecast_of}
 use Rattle.paper.specs.declared.page.Header.{Header}
 use Rattle.paper.specs.declared.refusal.Refusal.TheVariants.{PageLength, Width, KeyLength, HeaderRules, NotFit, Prefix}
-use Rattle.paper.specs.declared.answers.SpaceRead.TheVariants.{Are as Space-as-Are, Refused as Space-as-Refused}
-use Rattle.paper.specs.declared.answers.Needed.TheVariants.{Bytes as Needed-as-Bytes, Refused as Needed-as-Refused}
-use Rattle.paper.specs.declared.answers.Forecast.TheVariants.{Are as Forecast-as-Are, Refused as Forecast-as-Refused}
 use Rattle.node.specs.Header.{numbers_in, rules_of}
 use Rattle.node.proofs.Rules.{rules_of_lem}
+use Rattle.std.specs.Prelude.{Ok, Err}
+use Rattle.paper.specs.declared.answers.Forecast.{Forecast}
 
 -- ---- the space numbers
 numbers_in_lem : (p : List ℕ) (h : Header) → h ≡ header_of p → numbers_in h ≡ numbers_of p
@@ -26,43 +25,43 @@ numbers_in_lem p h e = ap numbers_in e
 
 -- h is the header that was read
 module _ (p : List ℕ) where
-  pub space-length : (length p ≡ 16384 → ⊥) → space_read p ≡ Space-as-Refused PageLength
+  pub space-length : (length p ≡ 16384 → ⊥) → space_read p ≡ Err PageLength
   unfolding space_read judge
   space-length l = rw (ne_eqb (length p) 16384 l)
 
-  pub space-rules : (h : Header) → length p ≡ 16384 → h ≡ header_of p → rules_of h ≡ false → space_read p ≡ Space-as-Refused HeaderRules
+  pub space-rules : (h : Header) → length p ≡ 16384 → h ≡ header_of p → rules_of h ≡ false → space_read p ≡ Err HeaderRules
   unfolding space_read judge
   space-rules h l e r = rw (eq-eqb (length p) 16384 l, ← rules_of_lem p, ← e, r)
 
   pub space-over : (h : Header) → length p ≡ 16384 → h ≡ header_of p → rules_of h ≡ true → used (numbers_in h) < h.effective
-      → space_read p ≡ Space-as-Refused (NotFit 8)
+      → space_read p ≡ Err (NotFit 8)
   unfolding space_read judge
   space-over h l e r k =
       rw (eq-eqb (length p) 16384 l, ← rules_of_lem p, ← e, r, ← numbers_in_lem p h e, lt-leb h.effective (used (numbers_in h)) k)
 
   pub space-are : (h : Header) → length p ≡ 16384 → h ≡ header_of p → rules_of h ≡ true → h.effective ≤ used (numbers_in h)
-      → space_read p ≡ Space-as-Are (space_of (numbers_in h))
+      → space_read p ≡ Ok (space_of (numbers_in h))
   unfolding space_read judge
   space-are h l e r k =
       rw (eq-eqb (length p) 16384 l, ← rules_of_lem p, ← e, r, ← numbers_in_lem p h e, le-leb h.effective (used (numbers_in h)) k)
 
 -- ---- need
 module _ (w n : ℕ) (k : List ℕ) where
-  pub need-width : is_width w ≡ false → need_of w n k ≡ Needed-as-Refused Width
+  pub need-width : is_width w ≡ false → need_of w n k ≡ Err Width
   unfolding need_of judge
   need-width h = rw h
 
-  pub need-long : is_width w ≡ true → 65535 < length k → need_of w n k ≡ Needed-as-Refused KeyLength
+  pub need-long : is_width w ≡ true → 65535 < length k → need_of w n k ≡ Err KeyLength
   unfolding need_of judge
   need-long h l = rw (h, lt-leb (length k) 65535 l)
 
-  pub need-short : is_width w ≡ true → length k ≤ 65535 → length k < n → need_of w n k ≡ Needed-as-Refused Prefix
+  pub need-short : is_width w ≡ true → length k ≤ 65535 → length k < n → need_of w n k ≡ Err Prefix
   unfolding need_of judge
   need-short h l m = rw (h, le-leb (length k) 65535 l, lt-leb n (length k) m)
 
   -- b is what was counted of the suffix
   pub need-bytes : (b : ℕ) → is_width w ≡ true → length k ≤ 65535 → n ≤ length k → b ≡ body_bytes 4 (length k - n)
-      → need_of w n k ≡ Needed-as-Bytes (8 + w + b)
+      → need_of w n k ≡ Ok (8 + w + b)
   unfolding need_of judge need
   need-bytes b h l m e = rw (h, le-leb (length k) 65535 l, le-leb n (length k) m, e)
 
@@ -76,16 +75,16 @@ module _ (a b : List ℕ) where
   unfolding begin_bytes
   begin-bytes n e = rw e
 
-  pub forecast-lower : 65535 < length a → forecast_of a b ≡ Forecast-as-Refused KeyLength
+  pub forecast-lower : 65535 < length a → forecast_of a b ≡ Err KeyLength
   unfolding forecast_of judge
   forecast-lower l = rw (lt-leb (length a) 65535 l)
 
-  pub forecast-upper : length a ≤ 65535 → 65535 < length b → forecast_of a b ≡ Forecast-as-Refused KeyLength
+  pub forecast-upper : length a ≤ 65535 → 65535 < length b → forecast_of a b ≡ Err KeyLength
   unfolding forecast_of judge
   forecast-upper l m = rw (le-leb (length a) 65535 l, lt-leb (length b) 65535 m)
 
   -- x is what was counted of prefix and fences
   pub forecast-are : (n x : ℕ) → length a ≤ 65535 → length b ≤ 65535 → n ≡ common a b → x ≡ fence_bytes n (length a - n) (length b - n)
-      → forecast_of a b ≡ Forecast-as-Are n (96 + x)
+      → forecast_of a b ≡ Ok (record { prefix_len = n; space = 96 + x })
   unfolding forecast_of judge
   forecast-are n x l m e f = rw (le-leb (length a) 65535 l, le-leb (length b) 65535 m, f, begin-bytes n e, e)

@@ -19,12 +19,11 @@ use Rattle.paper.specs.Calls.{key_at, trailing_of}
 use Rattle.paper.specs.declared.page.Slot.{Slot}
 use Rattle.paper.specs.declared.refusal.Refusal.{Refusal}
 use Rattle.paper.specs.declared.refusal.Refusal.TheVariants.{ShortKey}
-use Rattle.paper.specs.declared.answers.Trailing.TheVariants.{Id, Refused as Trailing-as-Refused}
 use Rattle.node.specs.Admit.{opened_of}
-use Rattle.node.specs.declared.slots.SlotRead.TheVariants.{Is as Slot-as-Is, Refused as Slot-as-Refused}
 use Rattle.node.proofs.Entries.{opened-judge, shut-judge}
 use Rattle.node.proofs.Spelling.{length-prefix_of, length-suffix_of, suffix-room, put_both}
 use Rattle.node.proofs.Copies.{size-least, prefix-most, suffix_within, key-is, key-length}
+use Rattle.std.specs.Prelude.{Ok, Err}
 
 -- ---- a number read from two lists, one after the other
 -- from a place of the first on, the bytes before that place do not matter
@@ -64,13 +63,13 @@ module _ (p f : List ℕ) (n : ℕ) (size : 16384 ≤ length p) (most : n ≤ 16
       (be-put-inside 8 z 0 (drop d f ++ suf) 0 (omega arith) (omega arith) ∙ be_later 8 d f suf (omega (arith, front_length)) ∙ rw (at, e))
 
 -- ---- the trailing id
-module _ (w : ℕ) (p : List ℕ) (i : ℕ) (s : Slot) (e : opened_of w p i ≡ Slot-as-Is s) where
+module _ (w : ℕ) (p : List ℕ) (i : ℕ) (s : Slot) (e : opened_of w p i ≡ Ok s) where
   abbrev key : List ℕ
   key = key_at p (slot_of p i)
 
-  trailing-by : (t : Bool) → leb 8 (length key) ≡ t → trailing_of w p i ≡ pick t (Id (be 8 key (length key - 8))) (Trailing-as-Refused ShortKey)
+  trailing-by : (t : Bool) → leb 8 (length key) ≡ t → trailing_of w p i ≡ pick t (Ok (be 8 key (length key - 8))) (Err ShortKey)
   unfolding trailing_of judge
-  trailing-by t l = opened-judge w p i s e (check (leb 8 (length key)) ShortKey ∷ []) (Id (be 8 key (length key - 8))) Trailing-as-Refused ∙ rw l
+  trailing-by t l = opened-judge w p i s e (check (leb 8 (length key)) ShortKey ∷ []) (Ok (be 8 key (length key - 8))) Err ∙ rw l
 
   -- of a long suffix it stands on the page
   pub long-within : (u : ℕ) → u ≡ s.offset + s.len → 8 < s.len → 88 + u + 8 ≤ length p
@@ -79,10 +78,10 @@ module _ (w : ℕ) (p : List ℕ) (i : ℕ) (s : Slot) (e : opened_of w p i ≡ 
   -- by the prefix length that was read
   module _ (m : ℕ) (f : m ≡ le 2 p 46) where
     module _ (n : ℕ) (k : n ≡ m + s.len) where
-      pub trailing-short : n < 8 → Trailing-as-Refused ShortKey ≡ trailing_of w p i
+      pub trailing-short : n < 8 → Err ShortKey ≡ trailing_of w p i
       trailing-short l = sym (trailing-by false (rw (key-length w p i s e m f) (lt-leb 8 (m + s.len) (omega arith))))
 
-      pub trailing-is : (v : ℕ) → 8 ≤ n → v ≡ be 8 (prefix_of p m ++ suffix_of p s) (m + s.len - 8) → Id v ≡ trailing_of w p i
+      pub trailing-is : (v : ℕ) → 8 ≤ n → v ≡ be 8 (prefix_of p m ++ suffix_of p s) (m + s.len - 8) → Ok v ≡ trailing_of w p i
       trailing-is v l g =
           sym (trailing-by true (rw (key-length w p i s e m f) (le-leb 8 (m + s.len) (omega arith))) ∙ rw (key-length w p i s e m f, key-is w p i s e m f, g))
 
@@ -95,6 +94,6 @@ module _ (w : ℕ) (p : List ℕ) (i : ℕ) (s : Slot) (e : opened_of w p i ≡ 
         let from : 96 + s.offset + (s.len - 8) ≡ 88 + u = omega arith in
         sym (rw (at, be_beyond 8 pre (suffix_of p s) (s.len - 8), suffix_of, lt-leb s.len 4 (omega arith), be-part 8 s.len p (96 + s.offset) (s.len - 8) (omega arith), from))
 
-pub trailing_shut : (w : ℕ) (p : List ℕ) (i : ℕ) (q : Refusal) → opened_of w p i ≡ Slot-as-Refused q → Trailing-as-Refused q ≡ trailing_of w p i
+pub trailing_shut : (w : ℕ) (p : List ℕ) (i : ℕ) (q : Refusal) → opened_of w p i ≡ Err q → Err q ≡ trailing_of w p i
 unfolding trailing_of
-trailing_shut w p i q e = sym (shut-judge w p i q e _ _ Trailing-as-Refused)
+trailing_shut w p i q e = sym (shut-judge w p i q e _ _ Err)

@@ -5,24 +5,20 @@ ghost use Rattle.paper.specs.Lists.{less};
 ghost use Rattle.paper.specs.Page.{prefix_of, suffix_of, body_bytes};
 ghost use Rattle.paper.specs.Calls.{copy_of, copy_buffer};
 
-use crate::slots::SlotRead;
-use crate::{admit, entry, slots};
-use keys::order::Order;
+use crate::{admit, entry};
 use keys::shared;
 use octets::{number, runs};
-use paper::answers::Copied;
 use paper::page::Slot;
+use paper::refusal;
 use paper::refusal::Refusal;
+use std::cmp::Ordering;
 
 // Whether one key is below another.
+#[tactic(auto, unfolding(paper::specs::Lists::less))]
 pub fn below(a: &[u8], b: &[u8]) -> bool
     ensures { result ≡ less a.now b.now }
 {
-    match shared::order_by_shared(a, b) {
-        Order::Below => true,
-        Order::Same => false,
-        Order::Above => false,
-    }
+    shared::order_by_shared(a, b).is_lt()
 }
 
 // The page's prefix: inline, or the body's last bytes.
@@ -97,22 +93,20 @@ pub fn key_len(prefix_len: u16, s: Slot) -> usize
 
 // Copies the key of entry `i` to the front of `out` and answers its length. Refuses 1, 2, 4, 10, 14, and 15 where `out` is
 // too short; a refusal leaves `out` as it was.
-pub fn copy_key(p: &[u8], width: u8, i: usize, out: &mut [u8]) -> Copied
+pub fn copy_key(p: &[u8], width: u8, i: usize, out: &mut [u8]) -> Result<usize, Refusal>
     ensures value { result ≡ copy_of width p.now i out.old }
     ensures out_after { out.new ≡ copy_buffer width p.now i out.old }
 {
-    if !admit::admits(p, width, 0) {
-        return Copied::Refused(admit::why_refused(p, width, 0));
-    }
-    let v = entry::open_entry(p, width, i);
-    let SlotRead::Is(s) = v else {
-        return Copied::Refused(slots::why_no_slot(v));
+    admit::admit(p, width, 0)?;
+    let read = entry::open_entry(p, width, i);
+    let Ok(s) = read else {
+        return Err(refusal::refusal_of(read));
     };
     let prefix_len = number::read_u16(p, 46);
     let n = key_len(prefix_len, s);
     if out.len() < n {
-        return Copied::Refused(Refusal::BufferLength);
+        return Err(Refusal::BufferLength);
     }
     put_key(p, prefix_len, s, out);
-    Copied::Bytes(n)
+    Ok(n)
 }

@@ -2,18 +2,11 @@
 ghost use Rattle.std.specs.Prelude.{◌≡◌, ◌*◌, ◌≤◌, length};
 ghost use Rattle.paper.specs.Page.{body_bytes};
 ghost use Rattle.paper.specs.Verdicts.{slot_payload, within};
-ghost use Rattle.node.specs.Admit.{slot_read_of, why_no_slot};
+ghost use Rattle.node.specs.Admit.{slot_read_of};
 
 use crate::{header, space};
 use paper::page::Slot;
 use paper::refusal::Refusal;
-
-// A slot that was visited, or why it may not be.
-#[derive(Clone, Copy)]
-pub enum SlotRead {
-    Is(Slot),
-    Refused(Refusal),
-}
 
 // The bytes of the body that a suffix of `len` bytes takes.
 pub fn suffix_bytes(len: u16) -> usize
@@ -31,26 +24,16 @@ pub fn payload_within(s: Slot, end: u16, width: u8) -> bool
 }
 
 // Slot `i` of `count`: 10 where it is not there, 14 where its payload lies outside end..16,256.
-pub fn visit_slot(p: &[u8], count: u16, end: u16, width: u8, i: usize) -> SlotRead
+pub fn visit_slot(p: &[u8], count: u16, end: u16, width: u8, i: usize) -> Result<Slot, Refusal>
     requires { (16384 ≤ length p.now) × (8 * count ≤ 16256) }
     ensures { result ≡ slot_read_of width p.now count end i }
 {
     if (count as usize) <= i {
-        return SlotRead::Refused(Refusal::SlotNumber);
+        return Err(Refusal::SlotNumber);
     }
     let s = header::read_slot(p, 96 + 8 * i);
     if !payload_within(s, end, width) {
-        return SlotRead::Refused(Refusal::Payload);
+        return Err(Refusal::Payload);
     }
-    SlotRead::Is(s)
-}
-
-// The refusal of a slot that may not be visited.
-pub fn why_no_slot(a: SlotRead) -> Refusal
-    ensures { result ≡ why_no_slot a }
-{
-    match a {
-        SlotRead::Is(_) => Refusal::Payload,
-        SlotRead::Refused(r) => r,
-    }
+    Ok(s)
 }

@@ -6,7 +6,7 @@ ghost use Rattle.paper.specs.Calls.{space_read, need_of, forecast_of};
 
 use crate::{admit, header};
 use keys::shared;
-use paper::answers::{Forecast, Needed, Space, SpaceRead};
+use paper::answers::{Forecast, Space};
 use paper::refusal::Refusal;
 
 // The bytes of the body that `n` bytes take, where up to `most` live elsewhere.
@@ -28,15 +28,15 @@ pub fn fence_bytes(prefix: usize, lower: usize, upper: usize) -> usize
 }
 
 // The space numbers: 1, 4, and 5 with 8 where effective exceeds used.
-pub fn space_numbers(p: &[u8]) -> SpaceRead
+pub fn space_numbers(p: &[u8]) -> Result<Space, Refusal>
     ensures { result ≡ space_read p.now }
 {
     if p.len() != 16384 {
-        return SpaceRead::Refused(Refusal::PageLength);
+        return Err(Refusal::PageLength);
     }
     let h = header::read_header(p);
     if !header::rules_hold(h) {
-        return SpaceRead::Refused(Refusal::HeaderRules);
+        return Err(Refusal::HeaderRules);
     }
     let start = h.start as u64;
     let end = h.end as u64;
@@ -44,9 +44,9 @@ pub fn space_numbers(p: &[u8]) -> SpaceRead
     let free = end - start;
     let used = 16352 - free;
     if used < effective {
-        return SpaceRead::Refused(Refusal::NotFit(8));
+        return Err(Refusal::NotFit(8));
     }
-    SpaceRead::Are(Space {
+    Ok(Space {
         start,
         end,
         free,
@@ -58,33 +58,36 @@ pub fn space_numbers(p: &[u8]) -> SpaceRead
 }
 
 // What an entry takes, from its key and the page's prefix length: 2, 3, and 8 where the key is shorter than the prefix.
-pub fn need(width: u8, prefix_len: usize, key: &[u8]) -> Needed
+pub fn need(width: u8, prefix_len: usize, key: &[u8]) -> Result<u64, Refusal>
     ensures { result ≡ need_of width prefix_len key.now }
 {
     if !admit::known_width(width) {
-        return Needed::Refused(Refusal::Width);
+        return Err(Refusal::Width);
     }
     if 65535 < key.len() {
-        return Needed::Refused(Refusal::KeyLength);
+        return Err(Refusal::KeyLength);
     }
     if key.len() < prefix_len {
-        return Needed::Refused(Refusal::Prefix);
+        return Err(Refusal::Prefix);
     }
     let n = body_bytes(4, key.len() - prefix_len);
-    Needed::Bytes(8 + (width as u64) + (n as u64))
+    Ok(8 + (width as u64) + (n as u64))
 }
 
 // What a page takes that begins with two fences: 3; else their common prefix length, and 96 plus the body bytes.
-pub fn forecast(lower: &[u8], upper: &[u8]) -> Forecast
+pub fn forecast(lower: &[u8], upper: &[u8]) -> Result<Forecast, Refusal>
     ensures { result ≡ forecast_of lower.now upper.now }
 {
     if 65535 < lower.len() {
-        return Forecast::Refused(Refusal::KeyLength);
+        return Err(Refusal::KeyLength);
     }
     if 65535 < upper.len() {
-        return Forecast::Refused(Refusal::KeyLength);
+        return Err(Refusal::KeyLength);
     }
     let n = shared::common_prefix_len(lower, upper);
     let bytes = fence_bytes(n, lower.len() - n, upper.len() - n);
-    Forecast::Are(n, 96 + bytes)
+    Ok(Forecast {
+        prefix_len: n,
+        space: 96 + bytes,
+    })
 }

@@ -4,11 +4,10 @@ ghost use Rattle.octets.specs.Bytes.{be};
 ghost use Rattle.paper.specs.Page.{prefix_of, suffix_of, body_bytes};
 ghost use Rattle.paper.specs.Calls.{trailing_of};
 
-use crate::slots::SlotRead;
-use crate::{admit, entry, key, slots};
+use crate::{admit, entry, key};
 use octets::{number, runs};
-use paper::answers::Trailing;
 use paper::page::Slot;
+use paper::refusal;
 use paper::refusal::Refusal;
 
 // The last eight bytes of a key whose suffix is shorter: the end of the prefix, then the suffix.
@@ -25,22 +24,20 @@ fn across(p: &[u8], prefix_len: u16, s: Slot) -> u64
 }
 
 // The trailing id of entry `i`. Refuses 1, 2, 4, 10, 14, and 16 where its key is under 8 bytes.
-pub fn trailing_id(p: &[u8], width: u8, i: usize) -> Trailing
+pub fn trailing_id(p: &[u8], width: u8, i: usize) -> Result<u64, Refusal>
     ensures { result ≡ trailing_of width p.now i }
 {
-    if !admit::admits(p, width, 0) {
-        return Trailing::Refused(admit::why_refused(p, width, 0));
-    }
-    let v = entry::open_entry(p, width, i);
-    let SlotRead::Is(s) = v else {
-        return Trailing::Refused(slots::why_no_slot(v));
+    admit::admit(p, width, 0)?;
+    let read = entry::open_entry(p, width, i);
+    let Ok(s) = read else {
+        return Err(refusal::refusal_of(read));
     };
     let prefix_len = number::read_u16(p, 46);
     if key::key_len(prefix_len, s) < 8 {
-        return Trailing::Refused(Refusal::ShortKey);
+        return Err(Refusal::ShortKey);
     }
     if 8 < s.len {
-        return Trailing::Id(number::read_be_u64(p, 88 + key::suffix_end(s)));
+        return Ok(number::read_be_u64(p, 88 + key::suffix_end(s)));
     }
-    Trailing::Id(across(p, prefix_len, s))
+    Ok(across(p, prefix_len, s))
 }

@@ -7,9 +7,6 @@ module _ {A B : Type 0} where
   pub named_value_p_after : A × B → record { value : A; p_after : B }
   named_value_p_after p = record { value = p.0; p_after = p.1 }
 
-  pub named_value_page_after : A × B → record { value : A; page_after : B }
-  named_value_page_after p = record { value = p.0; page_after = p.1 }
-
   pub named_value_part_after : A × B → record { value : A; part_after : B }
   named_value_part_after p = record { value = p.0; part_after = p.1 }
 

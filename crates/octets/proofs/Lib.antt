@@ -5,3 +5,4 @@ pub mod Little
 pub mod Big
 pub mod Turns
 pub mod Clauses
+pub mod Methods

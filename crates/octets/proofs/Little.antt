@@ -109,3 +109,9 @@ bytes_eight v =
 -- a width of at most eight is read whole
 pub le_least : (w : ℕ) (p : List ℕ) (o : ℕ) → w ≤ 8 → le (min w 8) p o ≡ le w p o
 le_least w p o h = let e : min w 8 ≡ w = omega arith in rw e
+
+-- and of a wider one the lowest eight bytes
+pub le_most : (w : ℕ) (p : List ℕ) (o : ℕ) → 8 ≤ w → le (min w 8) p o ≡ le 8 p o
+le_most w p o h = let e : min w 8 ≡ 8 = omega arith in rw e
+
+pub ruleset widths = (le_least, le_most)

@@ -1,4 +1,6 @@
 // Runs of bytes: copied into a page, and moved within it by the eight bytes of a slot.
+#![tactic(auto, using(crate::proofs::Methods::runs))]
+
 ghost use Rattle.std.specs.Prelude.{◌≡◌, ◌+◌, ◌-◌, ◌≤◌, length};
 ghost use Rattle.octets.specs.Bytes.{part, put};
 
@@ -7,11 +9,7 @@ pub fn copy_in(p: &mut [u8], at: usize, src: &[u8])
     requires { at + length src.now ≤ length p.old }
     ensures { p.new ≡ put p.old at src.now }
 {
-    let mut j = 0;
-    while j < src.len() {
-        p[at + j] = src[j];
-        j += 1;
-    }
+    p[at..at + src.len()].copy_from_slice(src);
 }
 
 // The bytes at..end, moved up by eight; the bytes at..at + 8 keep what they had.
@@ -19,11 +17,7 @@ pub fn move_up_8(p: &mut [u8], at: usize, end: usize)
     requires { (at ≤ end) × (end + 8 ≤ length p.old) }
     ensures { p.new ≡ put p.old (at + 8) (part (end - at) p.old at) }
 {
-    let mut k = end;
-    while at < k {
-        k -= 1;
-        p[k + 8] = p[k];
-    }
+    p.copy_within(at..end, at + 8);
 }
 
 // The bytes at + 8..end, moved down by eight; the last eight bytes keep what they had.
@@ -31,9 +25,5 @@ pub fn move_down_8(p: &mut [u8], at: usize, end: usize)
     requires { (at + 8 ≤ end) × (end ≤ length p.old) }
     ensures { p.new ≡ put p.old at (part (end - (at + 8)) p.old (at + 8)) }
 {
-    let mut k = at;
-    while k + 8 < end {
-        p[k] = p[k + 8];
-        k += 1;
-    }
+    p.copy_within(at + 8..end, at);
 }

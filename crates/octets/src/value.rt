@@ -6,20 +6,20 @@ ghost use Rattle.octets.specs.Bytes.{le, bytes, put};
 use crate::number;
 
 // A width below eight, byte by byte from the highest.
+#[tactic(auto, using(crate::proofs::Turns::reading), unfolding(crate::specs::Bytes::le))]
 fn read_narrow(p: &[u8], at: usize, width: usize) -> u64
     requires { (at + width ≤ length p.now) × (width < 8) }
     ensures { result ≡ le width p.now at }
 {
     let mut v: u64 = 0;
-    let mut i = width;
-    while 0 < i {
-        i -= 1;
+    for i in (0..width).rev() {
         v = number::byte(p, at + i) + 256 * v;
     }
     v
 }
 
 // The little-endian number in the `width` bytes from `at` on; of a width above eight, its eight lowest bytes.
+#[tactic(auto, using(crate::proofs::Little::widths))]
 pub fn read_value(p: &[u8], at: usize, width: usize) -> u64
     requires { at + width ≤ length p.now }
     ensures { result ≡ le (min width 8) p.now at }
@@ -31,16 +31,15 @@ pub fn read_value(p: &[u8], at: usize, width: usize) -> u64
 }
 
 // Any width, byte by byte from the lowest.
+#[tactic(auto, using(crate::proofs::Turns::writing))]
 fn write_bytes(p: &mut [u8], at: usize, width: usize, v: u64)
     requires { at + width ≤ length p.old }
     ensures { p.new ≡ put p.old at (bytes width v) }
 {
     let mut rest = v;
-    let mut j = 0;
-    while j < width {
-        p[at + j] = (rest % 256) as u8;
-        rest = rest / 256;
-        j += 1;
+    for byte in p[at..at + width].iter_mut() {
+        *byte = (rest % 256) as u8;
+        rest /= 256;
     }
 }
 

@@ -13,7 +13,6 @@ use lib.ListN.{length}
 use Rattle.octets.specs.Bytes.{IsBytes}
 use Rattle.keys.specs.Choice.{pick}
 use Rattle.keys.specs.Keys.{head_of, common}
-use Rattle.keys.specs.declared.order.Order.TheVariants.{Same as Order-as-Same}
 use Rattle.keys.proofs.Numbers.{by_number_below, below_same}
 use Rattle.keys.proofs.Prefixes.{common-le, order_lengths}
 use Rattle.paper.specs.Lists.{all, pairs, sum, less, rising}
@@ -26,9 +25,6 @@ use Rattle.paper.specs.Refusals.{judge}
 use Rattle.paper.specs.Edits.{fence_slot, Begin, begin_prefix, begin_lower, begin_upper, prefix_start, lower_start, upper_start, inlined, begun}
 use Rattle.paper.specs.Calls.{is_width, begin_checks, begin_of, begin_page, forecast_of, fit_verdict}
 use Rattle.paper.specs.Views.{begin_frame, begin_view}
-use Rattle.paper.specs.declared.answers.Edited.TheVariants.{Done, Refused as Edited-as-Refused}
-use Rattle.paper.specs.declared.answers.Forecast.TheVariants.{Are as Forecast-as-Are}
-use Rattle.paper.specs.declared.answers.Verdict.TheVariants.{Is as Verdict-as-Is}
 use Rattle.paper.proofs.Lists.{both_parts}
 use Rattle.paper.proofs.Sorted.{less-order}
 use Rattle.paper.proofs.Same.{Same, body_bytes_short, body_bytes_long}
@@ -36,6 +32,9 @@ use Rattle.paper.proofs.Fit.{Lie, Rules, Fit, fit_back, apart_sym, apart_low, ap
 use Rattle.paper.proofs.Judging.{fit_passed}
 use Rattle.paper.proofs.Holding.{Hold, judge_hold}
 use Rattle.paper.proofs.Beginning.{Begins, Typed, length-beginPrefix, length-beginUpper, begin-lower, begin-upper, begin-bytes, begin-room, length-begun, begin-frame, begin_numbers, begin-hints, begin-kept, begin-footer, begin-square, begun-bytes}
+use Rattle.std.specs.Prelude.{Ok, Err}
+use Rattle.paper.specs.declared.answers.Forecast.{Forecast}
+use Rattle.std.specs.declared.cmp.Ordering.TheVariants.{Equal}
 
 -- ---- the pieces of two fences
 -- a long one stands where it was put
@@ -89,7 +88,7 @@ module _ (b : Begin) (B : Begins b) where
       let l = length-beginUpper b in
       let o : less b.lower b.upper ≡ true = rw (ne_eqb (length b.upper) 0 ne) at B.order in
       ⊎_elim (λ (h : length b.lower < length b.upper). omega arith) (λ h. below_same (sym h.1))
-      (by_number_below (length b.lower) (length b.upper) Order-as-Same (sym (order_lengths b.lower b.upper (inr (omega arith))) ∙ less-order b.lower b.upper o))
+      (by_number_below (length b.lower) (length b.upper) Equal (sym (order_lengths b.lower b.upper (inr (omega arith))) ∙ less-order b.lower b.upper o))
 
   -- so the fences keep U5
   fences-rise : pick (eqb (length (begin_upper b)) 0) (eqb (length (begin_prefix b)) 0) (less (begin_prefix b ++ begin_lower b) (begin_prefix b ++ begin_upper b)) ≡ true
@@ -241,9 +240,9 @@ begin_holds p b h =
 
 module _ (p : List ℕ) (b : Begin) (h : Hold (begin_checks p b)) where
   -- begin is done
-  pub begin-done : begin_of p b ≡ Done
+  pub begin-done : begin_of p b ≡ Ok tt
   unfolding begin_of
-  begin-done = judge_hold (begin_checks p b) Done Edited-as-Refused h
+  begin-done = judge_hold (begin_checks p b) (Ok tt) Err h
 
   -- and leaves the begun page
   pub begin-page : begin_page p b ≡ begun p b
@@ -267,7 +266,7 @@ module _ (p : List ℕ) (b : Begin) (h : Hold (begin_checks p b)) where
     zeroed w = rw (begin-view w) (begin-fit b B w (view_of w p))
 
     -- the page is fit at every width
-    pub begin-verdict : (w : ℕ) → is_width w ≡ true → fit_verdict w (begin_page p b) ≡ Verdict-as-Is 0
+    pub begin-verdict : (w : ℕ) → is_width w ≡ true → fit_verdict w (begin_page p b) ≡ Ok 0
     begin-verdict w e = fit_passed w (begin_page p b) (record { size = rw begin-page (length-begun p b size B); width = e; fit = zeroed w })
 
     -- its listing is empty
@@ -283,7 +282,7 @@ module _ (p : List ℕ) (b : Begin) (h : Hold (begin_checks p b)) where
     begin-page-bytes e = rw begin-page (begun-bytes p b size B e T)
 
     -- and it is as the forecast says
-    pub begin-forecast : forecast_of b.lower b.upper ≡ Forecast-as-Are (frame_of (begin_page p b)).prefix_len (numbers_of (begin_page p b)).effective
+    pub begin-forecast : forecast_of b.lower b.upper ≡ Ok (record { prefix_len = (frame_of (begin_page p b)).prefix_len; space = (numbers_of (begin_page p b)).effective })
     unfolding forecast_of judge
     begin-forecast =
         let x1 = le-leb (length b.lower) 65535 B.lower_length in

@@ -11,7 +11,7 @@ use lib.Dec.{ltb}
 use lib.ListN.{replicate, get_or}
 use Rattle.octets.specs.Bytes.{IsBytes, le, be, part, bytes, big_bytes, put}
 use Rattle.keys.specs.Keys.{by_number, order, head_of, common, same_list}
-use Rattle.paper.specs.Lists.{every, tab, ins, all, pairs, sum, up_to, is_below, less, differ, below_first, rising}
+use Rattle.paper.specs.Lists.{every, tab, ins, all, pairs, sum, up_to, less, differ, below_first, rising}
 use Rattle.paper.specs.Page.{slot_of, prefix_of, suffix_of, body_bytes, row_of, frame_of, numbers_of, hints_of, view_of}
 use Rattle.paper.specs.Space.{free, need, fence_bytes, begin_bytes}
 use Rattle.paper.specs.Hints.{in_use, fresh, flat, refresh}
@@ -26,9 +26,9 @@ use Rattle.paper.specs.Printed.{decimal_in, decimal, hex_digit, hex_bytes, hex_k
 use Rattle.paper.specs.Listing.{Entry}
 use Rattle.paper.specs.Edits.{Begin}
 use Rattle.paper.specs.Demand.{Given, Demanded}
-use Rattle.paper.specs.declared.answers.Verdict.TheVariants.{Is as Verdict-as-Is}
 use Rattle.paper.proofs.Lists.{both_parts}
 use Rattle.paper.proofs.Demand.{demand3}
+use Rattle.std.specs.Prelude.{Ok}
 
 -- "begun at height 0, timestamp 0, empty fences, lower fence value 0, hints off"
 abbrev fences : Begin
@@ -63,7 +63,7 @@ text =
 record Computed : Type 0 where
   printed_text : printed (8 ∷ page) ≡ text
   page_bytes : all (λ x. ltb x 256) started ≡ true
-  fit : fit_verdict 8 started ≡ Verdict-as-Is 0
+  fit : fit_verdict 8 started ≡ Ok 0
   different : pairs (λ (x y : Entry). differ x.key y.key) (a ∷ parcel ∷ []) ≡ true
   absent : all (λ (e : Entry). all (differ e.key) (keys (listing 8 started))) (a ∷ parcel ∷ []) ≡ true
   fenced : all (λ (e : Entry). inside (frame_of started) e.key) (a ∷ parcel ∷ []) ≡ true
@@ -71,7 +71,7 @@ record Computed : Type 0 where
   room : need_of_all 8 started (a ∷ parcel ∷ []) ≤ free (numbers_of started)
 
 computed : Computed
-unfolding page started le part bytes big_bytes put by_number order head_of common same_list every tab ins all pairs sum up_to is_below less differ below_first rising slot_of prefix_of suffix_of body_bytes row_of frame_of numbers_of hints_of view_of need fence_bytes begin_bytes in_use fresh flat refresh payload fence_piece prefix_piece within apart long_within header_rules upper_empty inside faithful head_at u2 u3 u4 u5 u6 u7 u8 u9 first_broken fit_view fit_of empty_leaf fences_rise layout_view layout_of listing judge put_all slot_bytes number_fields fence_slot fences_placed begin_fields begun slot_for loaded slot_in slotted more numbered inserted passed is_width fits_width has_prefix begin_checks begin_page insert_checks insert_page need_of_all fit_verdict page_after decimal_in decimal hex_digit hex_bytes hex_key number_words verdict_line space_line entry_line entry_lines page_text printed text be
+unfolding page started le part bytes big_bytes put by_number order head_of common same_list every tab ins all pairs sum up_to less differ below_first rising slot_of prefix_of suffix_of body_bytes row_of frame_of numbers_of hints_of view_of need fence_bytes begin_bytes in_use fresh flat refresh payload fence_piece prefix_piece within apart long_within header_rules upper_empty inside faithful head_at u2 u3 u4 u5 u6 u7 u8 u9 first_broken fit_view fit_of empty_leaf fences_rise layout_view layout_of listing judge put_all slot_bytes number_fields fence_slot fences_placed begin_fields begun slot_for loaded slot_in slotted more numbered inserted passed is_width fits_width has_prefix begin_checks begin_page insert_checks insert_page need_of_all fit_verdict page_after decimal_in decimal hex_digit hex_bytes hex_key number_words verdict_line space_line entry_line entry_lines page_text printed text be
 computed =
     record { printed_text = refl; page_bytes = refl; fit = refl; different = refl; absent = refl; fenced = refl; values = refl; room = omega arith }
 

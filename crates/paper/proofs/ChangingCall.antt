@@ -20,8 +20,6 @@ use Rattle.paper.specs.Listing.{Entry, listing, keys}
 use Rattle.paper.specs.Edits.{rekeyed, key_changed}
 use Rattle.paper.specs.Searches.{probe_suffix}
 use Rattle.paper.specs.Calls.{is_width, has_prefix, between, room_for_key, change_checks, change_of, change_page, fit_verdict}
-use Rattle.paper.specs.declared.answers.Edited.TheVariants.{Done, Refused as Edited-as-Refused}
-use Rattle.paper.specs.declared.answers.Verdict.TheVariants.{Is as Verdict-as-Is}
 use Rattle.paper.proofs.Lists.{both_parts, all-at}
 use Rattle.paper.proofs.Swaps.{getD-swap, getD-swap-other, swap_self, between_of, rising-amid}
 use Rattle.paper.proofs.Same.{le-body_bytes}
@@ -29,9 +27,10 @@ use Rattle.paper.proofs.Judging.{fit_passed}
 use Rattle.paper.proofs.Fit.{Fit, fit, fit_back, placed}
 use Rattle.paper.proofs.Filing.{keys-listing, length-listing, frame-rules, prefix-length, has-prefix, whole-key}
 use Rattle.paper.proofs.Searching.{length_at, bytes-at, key-at, length-keys, rises}
-use Rattle.paper.proofs.Holding.{Hold, judge_hold, hold_judge}
+use Rattle.paper.proofs.Holding.{Hold, judge_hold, done_holds}
 use Rattle.paper.proofs.Changing.{not-outgrown, length-changed, changed-bytes}
 use Rattle.paper.proofs.ChangingFit.{change-frame, change_numbers, change-hints, change-listing, change-fits}
+use Rattle.std.specs.Prelude.{Ok, Err}
 
 -- what the tests say
 pub record Changes (w : ℕ) (p : List ℕ) (i : ℕ) (k : List ℕ) : Type 0 where
@@ -80,9 +79,9 @@ changes_hold w p i k C =
     rw (a, C.width, c, d, C.prefix, C.fenced, g, C.amidst, C.room)
 
 -- a call that was done says that all tests held
-pub change_held : (w : ℕ) (p : List ℕ) (i : ℕ) (k : List ℕ) → change_of w p i k ≡ Done → Hold (change_checks w p i k)
+pub change_held : (w : ℕ) (p : List ℕ) (i : ℕ) (k : List ℕ) → change_of w p i k ≡ Ok tt → Hold (change_checks w p i k)
 unfolding change_of
-change_held w p i k e = hold_judge (change_checks w p i k) Done Done Edited-as-Refused (λ f q. let z : ◌≡◌ {A = ℕ} 0 1 = cc in omega arith) e
+change_held w p i k e = done_holds (change_checks w p i k) e
 
 module _ (w : ℕ) (p : List ℕ) (i : ℕ) (k : List ℕ) (b : IsBytes p) (hk : IsBytes k) (H : Hold (change_checks w p i k)) where
   abbrev s : List ℕ
@@ -101,9 +100,9 @@ module _ (w : ℕ) (p : List ℕ) (i : ℕ) (k : List ℕ) (b : IsBytes p) (hk :
   whole = whole-key w p C.size C.fit k C.fenced
 
   -- ---- the answer and the page
-  pub change-done : change_of w p i k ≡ Done
+  pub change-done : change_of w p i k ≡ Ok tt
   unfolding change_of
-  change-done = judge_hold (change_checks w p i k) Done Edited-as-Refused H
+  change-done = judge_hold (change_checks w p i k) (Ok tt) Err H
 
   pub change-page : change_page w p i k ≡ key_changed w p i (probe_suffix (frame_of p) k)
   unfolding change_page
@@ -120,7 +119,7 @@ module _ (w : ℕ) (p : List ℕ) (i : ℕ) (k : List ℕ) (b : IsBytes p) (hk :
       rw change-page
       (change-fits w p i s C.size b C.fit C.there hs C.room (rw whole C.fenced) (rw (whole, ← keys-listing w p) C.amidst))
 
-  pub change-verdict : fit_verdict w q ≡ Verdict-as-Is 0
+  pub change-verdict : fit_verdict w q ≡ Ok 0
   change-verdict = fit_passed w q (record { size = change-size; width = C.width; fit = unfold fit_of in fit_back w (view_of w q) change-page-fit })
 
   -- ---- the header
@@ -209,9 +208,9 @@ module _ (w : ℕ) (p : List ℕ) (i : ℕ) (size : length p ≡ 16384) (b : IsB
         room = own_room;
       }))
 
-  pub same-key-done : change_of w p i (get_or (keys (listing w p)) i []) ≡ Done
+  pub same-key-done : change_of w p i (get_or (keys (listing w p)) i []) ≡ Ok tt
   unfolding change_of
-  same-key-done = judge_hold (change_checks w p i (get_or (keys (listing w p)) i [])) Done Edited-as-Refused same_key
+  same-key-done = judge_hold (change_checks w p i (get_or (keys (listing w p)) i [])) (Ok tt) Err same_key
 
   own-bytes : IsBytes (get_or (keys (listing w p)) i [])
   own-bytes = rw own_is (append-bytes (frame_of p).prefix (suffix_of p (slot_of p i)) (prefix-bytes p b) (bytes-at w p size b F i))

@@ -26,8 +26,6 @@ use Rattle.paper.specs.Searches.{probe_suffix}
 use Rattle.paper.specs.Calls.{is_width, fits_width, has_prefix, run, entry_checks, above_last, need_of_all, run_checks, run_of, run_page, fit_verdict}
 use Rattle.paper.specs.Views.{run_view}
 use Rattle.paper.specs.declared.page.Slot.{Slot}
-use Rattle.paper.specs.declared.answers.Edited.TheVariants.{Done, Refused as Edited-as-Refused}
-use Rattle.paper.specs.declared.answers.Verdict.TheVariants.{Is as Verdict-as-Is}
 use Rattle.paper.proofs.Lists.{all_parts, both_parts, both_yes}
 use Rattle.paper.proofs.Fit.{Fit, fit, fit_back, effective-used, length-rows, placed}
 use Rattle.paper.proofs.Judging.{passed-fit, fit_passed}
@@ -36,6 +34,7 @@ use Rattle.paper.proofs.Filing.{keys-listing, frame-rules}
 use Rattle.paper.proofs.Searching.{rises}
 use Rattle.paper.proofs.Copying.{Appends, run_square, length_run, run-bytes}
 use Rattle.paper.proofs.CopyingFit.{Grown, Runs, run-view-fit, run-view_list, run_grown, run-hints}
+use Rattle.std.specs.Prelude.{Ok, Err}
 
 -- ---- a run on a fit page
 pub record Copies (w : ℕ) (p : List ℕ) (es : List Entry) : Type 0 where
@@ -336,9 +335,9 @@ module _ (w : ℕ) (p q : List ℕ) (a n : ℕ) (bp : IsBytes p) (bq : IsBytes q
       }
 
   -- run copy is done
-  pub run_done : run_of w p q a n ≡ Done
+  pub run_done : run_of w p q a n ≡ Ok tt
   unfolding run_of
-  run_done = judge_hold (run_checks w p q a n) Done Edited-as-Refused h
+  run_done = judge_hold (run_checks w p q a n) (Ok tt) Err h
 
   -- and leaves the copied page
   pub run-page : run_page w p q a n ≡ run_copied w p (run w q a n)
@@ -346,7 +345,7 @@ module _ (w : ℕ) (p q : List ℕ) (a n : ℕ) (bp : IsBytes p) (bq : IsBytes q
   run-page = judge_hold (run_checks w p q a n) (run_copied w p (run w q a n)) (λ r. p) h
 
   -- the page is fit again
-  pub run-verdict : fit_verdict w (run_page w p q a n) ≡ Verdict-as-Is 0
+  pub run-verdict : fit_verdict w (run_page w p q a n) ≡ Ok 0
   run-verdict =
       rw run-page
       (fit_passed w (run_copied w p (run w q a n)) (record { size = length_run w p (run w q a n) (appends w p (run w q a n) run-copies); width = H.width; fit = zeroed }))
@@ -382,7 +381,7 @@ unfolding run_page run_copied
 run_none w p q a = judge_same (run_checks w p q a 0) p
 
 -- "n = 0 with a up to count is done"
-pub run-none_done : (w : ℕ) (p q : List ℕ) (a : ℕ) → fit_verdict w p ≡ Verdict-as-Is 0 → fit_verdict w q ≡ Verdict-as-Is 0 → a ≤ (numbers_of q).count → run_of w p q a 0 ≡ Done
+pub run-none_done : (w : ℕ) (p q : List ℕ) (a : ℕ) → fit_verdict w p ≡ Ok 0 → fit_verdict w q ≡ Ok 0 → a ≤ (numbers_of q).count → run_of w p q a 0 ≡ Ok tt
 unfolding run_of run_checks judge entry_checks above_last need_of_all sum
 run-none_done w p q a e f l =
     let P = passed-fit w p e in

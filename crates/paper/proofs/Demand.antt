@@ -20,17 +20,14 @@ use Rattle.paper.specs.Searches.{slot_order, sign_of, bound, scan, find_scan, ch
 use Rattle.paper.specs.Calls.{is_width, has_prefix, key_length, prefix_held, inside_fences, find_of, bound_of, compared, compare_of, child_of}
 use Rattle.paper.specs.Demand.{page_after, Given, Searched, Demand3}
 use Rattle.paper.specs.declared.refusal.Refusal.TheVariants.{KeyLength, SlotNumber}
-use Rattle.paper.specs.declared.answers.Found.TheVariants.{Refused as Found-as-Refused}
-use Rattle.paper.specs.declared.answers.Bound.TheVariants.{At as Bound-as-At, Refused as Bound-as-Refused}
-use Rattle.paper.specs.declared.answers.Compared.{Compared}
-use Rattle.paper.specs.declared.answers.Compared.TheVariants.{Sign, Refused as Compared-as-Refused}
-use Rattle.paper.specs.declared.answers.Child.TheVariants.{Refused as Child-as-Refused}
 use Rattle.paper.proofs.Judging.{Passed, size_test, passed-fit, fit_passed}
 use Rattle.paper.proofs.Fit.{rules_back, Fit, fit, fit_back}
 use Rattle.paper.proofs.Filing.{length-listing, frame-rules}
 use Rattle.paper.proofs.Perms.{file_all-holds}
 use Rattle.paper.proofs.Searching.{slot-order, key-at, rises, bound-scan, find-scan}
 use Rattle.paper.proofs.AnyOrder.{Files, filed, files_perm, listing-alike, header-alike}
+use Rattle.std.specs.Prelude.{ℤ, Result, Ok, Err}
+use Rattle.paper.specs.declared.refusal.Refusal.{Refusal}
 
 -- ---- searches of a fit page q that has the frame of p
 module _ (w : ℕ) (p q : List ℕ) (size : length q ≡ 16384) (b : IsBytes q) (width : is_width w ≡ true) (F : Fit w (view_of w q)) (frame : frame_of q ≡ frame_of p) where
@@ -40,29 +37,29 @@ module _ (w : ℕ) (p q : List ℕ) (size : length q ≡ 16384) (b : IsBytes q) 
   abbrev l : List Entry
   l = listing w q
 
-  bounds : (u : Bool) (k : List ℕ) → IsBytes k → bound_of u w q k ≡ judge (key_length k ∷ []) (Bound-as-At (scan u k l)) Bound-as-Refused
+  bounds : (u : Bool) (k : List ℕ) → IsBytes k → bound_of u w q k ≡ judge (key_length k ∷ []) (Ok (scan u k l)) Err
   unfolding bound_of judge
   bounds u k hk = rw (size_test q size, width, rules-test, bound-scan w q size b F u k hk)
 
-  finds : (k : List ℕ) → IsBytes k → find_of w q k ≡ judge (key_length k ∷ prefix_held p k ∷ []) (find_scan k l) Found-as-Refused
+  finds : (k : List ℕ) → IsBytes k → find_of w q k ≡ judge (key_length k ∷ prefix_held p k ∷ []) (find_scan k l) Err
   unfolding find_of judge
   finds k hk =
       let prefix : has_prefix (frame_of q) k ≡ has_prefix (frame_of p) k = rw frame in
       rw (size_test q size, width, rules-test, find-scan w q size b F k hk, prefix)
 
   compares : (i : ℕ) (k : List ℕ) → IsBytes k
-      → compare_of w q i k ≡ judge (key_length k ∷ check (ltb i (length l)) SlotNumber ∷ []) (Sign (sign_of (order (get_or (keys l) i []) k))) Compared-as-Refused
+      → compare_of w q i k ≡ judge (key_length k ∷ check (ltb i (length l)) SlotNumber ∷ []) (Ok (sign_of (order (get_or (keys l) i []) k))) Err
   unfolding compare_of judge
-  compares i k hk = rw (size_test q size, width, rules-test, length-listing w q) (ap (λ (c : Compared). pick (leb (length k) 65535) c (Compared-as-Refused KeyLength)) (go (dec_lt i (numbers_of q).count)))
+  compares i k hk = rw (size_test q size, width, rules-test, length-listing w q) (ap (λ (c : Result ℤ Refusal). pick (leb (length k) 65535) c (Err KeyLength)) (go (dec_lt i (numbers_of q).count)))
     where
       go : Dec (i < (numbers_of q).count)
-          → pick (ltb i (numbers_of q).count) (compared (slot_order w q k i)) (Compared-as-Refused SlotNumber)
-          ≡ pick (ltb i (numbers_of q).count) (Sign (sign_of (order (get_or (keys l) i []) k))) (Compared-as-Refused SlotNumber)
+          → pick (ltb i (numbers_of q).count) (compared (slot_order w q k i)) (Err SlotNumber)
+          ≡ pick (ltb i (numbers_of q).count) (Ok (sign_of (order (get_or (keys l) i []) k))) (Err SlotNumber)
       go (yes h) = rw (lt-ltb i (numbers_of q).count h, slot-order w q size b F k hk i h, key-at w q size b F i h []) (unfold compared in refl)
       go (no h) = rw (le-ltb i (numbers_of q).count (omega arith))
 
   children : (k : List ℕ) → w ≡ 8
-      → child_of q k ≡ judge (key_length k ∷ prefix_held p k ∷ inside_fences p k ∷ []) (child_scan (frame_of p).lower_value k l) Child-as-Refused
+      → child_of q k ≡ judge (key_length k ∷ prefix_held p k ∷ inside_fences p k ∷ []) (Ok (child_scan (frame_of p).lower_value k l)) Err
   unfolding child_of judge
   children k e =
       let zero : fit_of 8 q ≡ 0 = rw (← e) fits in

@@ -25,14 +25,13 @@ use Rattle.paper.specs.Edits.{more, inserted}
 use Rattle.paper.specs.Searches.{passed, probe_suffix, scan}
 use Rattle.paper.specs.Calls.{is_width, fits_width, has_prefix, insert_checks, insert_of, insert_page}
 use Rattle.paper.specs.Views.{refreshed, row_for, insert_view}
-use Rattle.paper.specs.declared.answers.Filed.{Filed}
-use Rattle.paper.specs.declared.answers.Filed.TheVariants.{At as Filed-as-At}
 use Rattle.paper.proofs.Lists.{both_parts, map-ins}
 use Rattle.paper.proofs.Sorted.{spot, up_to_le, file_ins, fenced-prefix}
 use Rattle.paper.proofs.Same.{le-body_bytes}
 use Rattle.paper.proofs.Fit.{Rules, Fit, fit_back, length-rows, placed}
 use Rattle.paper.proofs.Inserting.{Room, insert-square, length_inserted, inserted-bytes}
 use Rattle.paper.proofs.InsertFit.{Goes, insert-fit}
+use Rattle.std.specs.Prelude.{Ok, Err}
 
 -- ---- a page and its listing
 pub keys-listing : (w : ℕ) (p : List ℕ) → keys (listing w p) ≡ keys_of (view_of w p)
@@ -147,9 +146,9 @@ module _ (w : ℕ) (p : List ℕ) (e : Entry) (T : Takes w p e) where
       rw (x1, T.width, x3, x5, T.value, x8, T.fenced, T.absent, x13)
 
   -- the insert is accepted
-  pub insert-accepted : insert_of w p e.key e.value ≡ Filed-as-At i
+  pub insert-accepted : insert_of w p e.key e.value ≡ Ok i
   unfolding insert_of
-  insert-accepted = judged (Filed-as-At i) Rattle.paper.specs.declared.answers.Filed.TheVariants.Refused
+  insert-accepted = judged (Ok i) Err
 
   insert-page : insert_page w p e.key e.value ≡ inserted w p i s e.value
   unfolding insert_page

@@ -10,14 +10,14 @@ use borrow.Author.Tests.{lt-ltb, le-ltb}
 use lib.ListN.{length, get_or}
 use Rattle.keys.specs.Choice.{pick}
 use Rattle.keys.specs.Keys.{order}
-use Rattle.keys.specs.declared.order.Order.{Order}
-use Rattle.keys.specs.declared.order.Order.TheVariants.{Below, Same, Above}
 use Rattle.keys.proofs.Orders.{order_same, order-above, order_below}
 use Rattle.paper.specs.Lists.{up_to, less, below_first, rising}
 use Rattle.paper.specs.Hints.{first_hint}
 use Rattle.paper.specs.Searches.{middle, halving, passed}
 use Rattle.paper.proofs.Lists.{both_parts}
 use Rattle.paper.proofs.Sorted.{never, less-order, order-less, less_trans}
+use Rattle.std.specs.declared.cmp.Ordering.{Ordering}
+use Rattle.std.specs.declared.cmp.Ordering.TheVariants.{Less, Equal, Greater}
 
 -- ---- halving, step by step
 module _ {A B : Type 0} (t : A → B → B → B) (d : ℕ → B) where
@@ -121,11 +121,11 @@ up_to_after f m (y ∷ l) r d i h k = go i (f y) refl (λ j. up_to_after f m l (
     go (suc i) false e next h k = let b = both_parts (below_first y l) (rising l) r in rest_false f m y l b.0 b.1 e d i (omega arith)
 
 -- ---- keys that a bound passes
-pub passed_below : (u : Bool) (o : Order) → o ≡ Below → passed u o ≡ true
+pub passed_below : (u : Bool) (o : Ordering) → o ≡ Less → passed u o ≡ true
 unfolding passed
 passed_below u o e = rw e
 
-pub passed-above : (u : Bool) (o : Order) → o ≡ Above → passed u o ≡ false
+pub passed-above : (u : Bool) (o : Ordering) → o ≡ Greater → passed u o ≡ false
 unfolding passed
 passed-above u o e = rw e
 
@@ -136,10 +136,10 @@ passed_falls u k x y l = go (order x k) refl
     above : less k y ≡ true → passed u (order y k) ≡ false
     above h = passed-above u (order y k) (order_below k y (less-order k y h))
 
-    go : (o : Order) → order x k ≡ o → passed u o ≡ false → passed u (order y k) ≡ false
-    go Below e h = never true refl (unfold passed in h)
-    go Same e h = above (rw (order_same x k e) at l)
-    go Above e h = above (less_trans k x y (order-less k x (order-above x k e)) l)
+    go : (o : Ordering) → order x k ≡ o → passed u o ≡ false → passed u (order y k) ≡ false
+    go Less e h = never true refl (unfold passed in h)
+    go Equal e h = above (rw (order_same x k e) at l)
+    go Greater e h = above (less_trans k x y (order-less k x (order-above x k e)) l)
 
 -- ---- the first hint that passes
 pub first_hint-le : (f : ℕ → Bool) (hs : List ℕ) → first_hint f hs ≤ length hs

@@ -12,7 +12,7 @@ use Rattle.paper.specs.Verdicts.{fit_of}
 use Rattle.paper.specs.Refusals.{judge}
 use Rattle.paper.specs.Calls.{is_width, fit_verdict}
 use Rattle.paper.specs.declared.refusal.Refusal.TheVariants.{PageLength, Width}
-use Rattle.paper.specs.declared.answers.Verdict.TheVariants.{Is as Verdict-as-Is, Refused as Verdict-as-Refused}
+use Rattle.std.specs.Prelude.{Ok, Err}
 
 pub size_test : (p : List ℕ) → length p ≡ 16384 → eqb (length p) 16384 ≡ true
 size_test p e = eq-eqb (length p) 16384 e
@@ -23,16 +23,16 @@ pub record Passed (w : ℕ) (p : List ℕ) : Type 0 where
   pub width : is_width w ≡ true
   pub fit : fit_of w p ≡ 0
 
-pub passed-fit : (w : ℕ) (p : List ℕ) → fit_verdict w p ≡ Verdict-as-Is 0 → Passed w p
+pub passed-fit : (w : ℕ) (p : List ℕ) → fit_verdict w p ≡ Ok 0 → Passed w p
 unfolding fit_verdict judge
 passed-fit w p e = go (eqb (length p) 16384) refl (is_width w) refl e
   where
     go : (a : Bool) → eqb (length p) 16384 ≡ a → (b : Bool) → is_width w ≡ b
-        → pick a (pick b (Verdict-as-Is (fit_of w p)) (Verdict-as-Refused Width)) (Verdict-as-Refused PageLength) ≡ Verdict-as-Is 0 → Passed w p
+        → pick a (pick b (Ok (fit_of w p)) (Err Width)) (Err PageLength) ≡ Ok 0 → Passed w p
     go true x true y e = record { size = eqb-true (length p) 16384 x; width = y; fit = cc }
     go true x false y e = absurd (let z : ◌≡◌ {A = ℕ} 0 1 = cc in omega arith)
     go false x b y e = absurd (let z : ◌≡◌ {A = ℕ} 0 1 = cc in omega arith)
 
-pub fit_passed : (w : ℕ) (p : List ℕ) → Passed w p → fit_verdict w p ≡ Verdict-as-Is 0
+pub fit_passed : (w : ℕ) (p : List ℕ) → Passed w p → fit_verdict w p ≡ Ok 0
 unfolding fit_verdict judge
 fit_passed w p P = let a = size_test p P.size in rw (a, P.width, P.fit)

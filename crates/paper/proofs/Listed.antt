@@ -9,8 +9,6 @@ use lib.ListN.{length, get_or, length-map, get_or-map}
 use Rattle.octets.specs.Bytes.{le}
 use Rattle.keys.specs.Choice.{pick, both}
 use Rattle.keys.specs.Keys.{order}
-use Rattle.keys.specs.declared.order.Order.{Order}
-use Rattle.keys.specs.declared.order.Order.TheVariants.{Below, Same, Above}
 use Rattle.keys.proofs.Orders.{order_same, order-above}
 use Rattle.paper.specs.Lists.{tab, all, up_to, less, differ, below_first, rising}
 use Rattle.paper.specs.Page.{slot_of, suffix_of, value_at, Row, row_of, frame_of, numbers_of, view_of}
@@ -19,6 +17,8 @@ use Rattle.paper.specs.Searches.{passed}
 use Rattle.paper.proofs.Lists.{both_parts, both_yes, length-tab, getD-tab}
 use Rattle.paper.proofs.Sorted.{never, spot, order-less, less_trans, differ_sym}
 use Rattle.paper.proofs.Searching.{get_d_any}
+use Rattle.std.specs.declared.cmp.Ordering.{Ordering}
+use Rattle.std.specs.declared.cmp.Ordering.TheVariants.{Less, Equal, Greater}
 
 -- the entry of slot i
 pub listed : (w : ℕ) (p : List ℕ) (i : ℕ) (d : Entry) → i < (numbers_of p).count
@@ -51,14 +51,14 @@ unfolding rising all up_to passed
 present_at k [] r e = never true refl e
 present_at k (y ∷ l) r e = go (order y k) refl (present_at k l (both_parts (below_first y l) (rising l) r).1)
   where
-    go : (o : Order) → order y k ≡ o → (all (differ k) l ≡ false → (spot k l < length l) × (get_or l (spot k l) [] ≡ k))
+    go : (o : Ordering) → order y k ≡ o → (all (differ k) l ≡ false → (spot k l < length l) × (get_or l (spot k l) [] ≡ k))
         → (pick (passed false o) (suc (spot k l)) 0 < suc (length l)) × (get_or (y ∷ l) (pick (passed false o) (suc (spot k l)) 0) [] ≡ k)
-    go Below q next =
+    go Less q next =
         let d : differ k y ≡ true = differ_sym k y ∙ less-differ y k (order-less y k q) in
         let m = next (rw d at e) in
         (omega arith, m.1)
-    go Same q next = (omega arith, order_same y k q)
-    go Above q next =
+    go Equal q next = (omega arith, order_same y k q)
+    go Greater q next =
         let m = order-less k y (order-above y k q) in
         let b = both_parts (below_first y l) (rising l) r in
         never (both (differ k y) (all (differ k) l)) (both_yes (differ k y) (all (differ k) l) (less-differ k y m) (all_above k y l m b.0 b.1)) e

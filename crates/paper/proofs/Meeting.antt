@@ -12,12 +12,12 @@ use lib.ListN.{length, take, drop}
 use Rattle.octets.specs.Bytes.{IsBytes, part}
 use Rattle.keys.specs.Choice.{pick}
 use Rattle.keys.specs.Keys.{by_number, order, head_of, meets}
-use Rattle.keys.specs.declared.order.Order.{Order}
-use Rattle.keys.specs.declared.order.Order.TheVariants.{Below, Same, Above}
 use Rattle.keys.proofs.Numbers.{tri, below_same, below_above, same_above, by_number-lt, by_number_eq, by_number_gt, by_number_below, by_number_same}
 use Rattle.keys.proofs.Heads.{meets-order}
 use Rattle.paper.specs.Searches.{slot_meets, by_class}
 use Rattle.paper.specs.declared.page.Slot.{Slot}
+use Rattle.std.specs.declared.cmp.Ordering.{Ordering}
+use Rattle.std.specs.declared.cmp.Ordering.TheVariants.{Less, Equal, Greater}
 
 -- ---- a slot and a probe
 -- o is faithful to the suffix x, which stands at its offset where it is long
@@ -30,12 +30,12 @@ slot-meets o p s x hx hs l e long = rw (e, l) (same (leb (min (length x) (length
     whole h = rw (← l) (long (omega arith))
 
     same : (t : Bool) → leb (min (length x) (length s)) 4 ≡ t
-        → by_number (head_of x) (head_of s) (pick (leb (min (length x) (length s)) 4) (by_number (length x) (length s) Same) (order (part (length x) p (96 + o.offset)) s)) ≡ meets x s
+        → by_number (head_of x) (head_of s) (pick (leb (min (length x) (length s)) 4) (by_number (length x) (length s) Equal) (order (part (length x) p (96 + o.offset)) s)) ≡ meets x s
     same true q = unfold meets in rw q
     same false q = unfold meets in rw (q, whole (omega (arith, leb-false (min (length x) (length s)) 4 q)))
 
 -- ---- the class of a probe
-class_same : (pre s k : List ℕ) → order (take (length pre) k) pre ≡ Same → order (pre ++ s) k ≡ order s (drop (length pre) k)
+class_same : (pre s k : List ℕ) → order (take (length pre) k) pre ≡ Equal → order (pre ++ s) k ≡ order s (drop (length pre) k)
 unfolding order
 class_same [] s k e = refl
 class_same (x ∷ pre) s [] e = below_same e
@@ -43,7 +43,7 @@ class_same (x ∷ pre) s (y ∷ k) e =
     let b = by_number_same y x (order (take (length pre) k) pre) e in
     by_number_eq x y (order (pre ++ s) k) (sym b.0) ∙ class_same pre s k b.1
 
-class_below : (pre s k : List ℕ) → order (take (length pre) k) pre ≡ Below → order (pre ++ s) k ≡ Above
+class_below : (pre s k : List ℕ) → order (take (length pre) k) pre ≡ Less → order (pre ++ s) k ≡ Greater
 unfolding order
 class_below [] s k e = below_same (sym e)
 class_below (x ∷ pre) s [] e = refl
@@ -51,7 +51,7 @@ class_below (x ∷ pre) s (y ∷ k) e =
     ⊎_elim (λ h. by_number_gt x y (order (pre ++ s) k) h) (λ h. by_number_eq x y (order (pre ++ s) k) (sym h.0) ∙ class_below pre s k h.1)
     (by_number_below y x (order (take (length pre) k) pre) e)
 
-class_above : (pre s k : List ℕ) → order (take (length pre) k) pre ≡ Above → order (pre ++ s) k ≡ Below
+class_above : (pre s k : List ℕ) → order (take (length pre) k) pre ≡ Greater → order (pre ++ s) k ≡ Less
 unfolding order
 class_above [] s k e = same_above e
 class_above (x ∷ pre) s [] e = below_above e
@@ -65,7 +65,7 @@ class_above (x ∷ pre) s (y ∷ k) e =
 pub by_class_lem : (pre s k : List ℕ) → by_class (order (take (length pre) k) pre) (order s (drop (length pre) k)) ≡ order (pre ++ s) k
 by_class_lem pre s k = go (order (take (length pre) k) pre) refl
   where
-    go : (c : Order) → order (take (length pre) k) pre ≡ c → by_class c (order s (drop (length pre) k)) ≡ order (pre ++ s) k
-    go Below e = unfold by_class in sym (class_below pre s k e)
-    go Same e = unfold by_class in sym (class_same pre s k e)
-    go Above e = unfold by_class in sym (class_above pre s k e)
+    go : (c : Ordering) → order (take (length pre) k) pre ≡ c → by_class c (order s (drop (length pre) k)) ≡ order (pre ++ s) k
+    go Less e = unfold by_class in sym (class_below pre s k e)
+    go Equal e = unfold by_class in sym (class_same pre s k e)
+    go Greater e = unfold by_class in sym (class_above pre s k e)

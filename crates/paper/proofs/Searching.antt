@@ -18,8 +18,6 @@ use Rattle.octets.proofs.Little.{le-lt}
 use Rattle.octets.proofs.Big.{length-big_bytes, big_bytes-bytes}
 use Rattle.keys.specs.Choice.{pick}
 use Rattle.keys.specs.Keys.{order, head_of}
-use Rattle.keys.specs.declared.order.Order.{Order}
-use Rattle.keys.specs.declared.order.Order.TheVariants.{Below, Same, Above}
 use Rattle.keys.proofs.Numbers.{by_number-lt}
 use Rattle.keys.proofs.Orders.{order_same, same_order, order_below}
 use Rattle.keys.proofs.Heads.{head-differ}
@@ -29,9 +27,6 @@ use Rattle.paper.specs.Hints.{in_use, window, fresh, first_hint, window_low, win
 use Rattle.paper.specs.Verdicts.{slot_payload, within, keys_of, faithful, head_at, u7}
 use Rattle.paper.specs.Listing.{Entry, listing, keys}
 use Rattle.paper.specs.Searches.{visit, class_of, probe_suffix, by_class, slot_meets, slot_order, passed, turn, search, bound_in, bound_by, bound, tested, find_at, scan, find_scan}
-use Rattle.paper.specs.declared.answers.Met.TheVariants.{Is as Met-as-Is}
-use Rattle.paper.specs.declared.answers.Bound.TheVariants.{At as Bound-as-At}
-use Rattle.paper.specs.declared.answers.Found.TheVariants.{Equal, Smaller}
 use Rattle.paper.proofs.Lists.{both_parts, both_yes, length-tab, getD-tab, all-at, all_of}
 use Rattle.paper.proofs.Sorted.{never, up_to_le, order-less, differ_same, differ_no, differ_sym}
 use Rattle.paper.proofs.Same.{body_bytes_long}
@@ -41,6 +36,12 @@ use Rattle.paper.proofs.Filing.{keys-listing, length-listing, prefix-length}
 use Rattle.paper.proofs.HeaderBytes.{entries-faithful, hints-fresh}
 use Rattle.paper.proofs.Halving.{halving_to, up_to_before, up_to_after, passed_below, passed-above, passed_falls, first_hint-le, first_hint-before, first_hint-here}
 use Rattle.paper.proofs.Meeting.{slot-meets, by_class_lem}
+use Rattle.std.specs.Prelude.{Result, Ok}
+use Rattle.std.specs.declared.cmp.Ordering.{Ordering}
+use Rattle.std.specs.declared.cmp.Ordering.TheVariants.{Less, Equal, Greater}
+use Rattle.paper.specs.declared.refusal.Refusal.{Refusal}
+use Rattle.paper.specs.declared.answers.Found.{Found}
+use Rattle.paper.specs.declared.answers.Found.TheVariants.{Equal as Found-as-Equal, Smaller}
 
 pub get_d_any : {A : Type 0} (l : List A) (i : ℕ) (d e : A) → i < length l → get_or l i d ≡ get_or l i e
 get_d_any [] i d e h = absurd (omega arith)
@@ -52,8 +53,8 @@ unfolding fresh
 fresh_at n head j h = getD-tab 8 (λ i. head ((i + 1) * window n)) j 0 h
 
 -- heads that are below decide
-head_below : (a b : List ℕ) → IsBytes a → IsBytes b → head_of a < head_of b → order a b ≡ Below
-head_below a b ha hb l = head-differ a b ha hb (λ e. omega arith) ∙ by_number-lt (head_of a) (head_of b) Same l
+head_below : (a b : List ℕ) → IsBytes a → IsBytes b → head_of a < head_of b → order a b ≡ Less
+head_below a b ha hb l = head-differ a b ha hb (λ e. omega arith) ∙ by_number-lt (head_of a) (head_of b) Equal l
 
 module _ (w : ℕ) (p : List ℕ) (size : length p ≡ 16384) (b : IsBytes p) (F : Fit w (view_of w p)) where
   abbrev n : ℕ
@@ -118,14 +119,14 @@ module _ (w : ℕ) (p : List ℕ) (size : length p ≡ 16384) (b : IsBytes p) (F
   long-at i k = rw (lt-leb (slot_of p i).len 4 k)
 
   -- a visited slot stands to a probe as its key does
-  pub slot-order : (k : List ℕ) → IsBytes k → (i : ℕ) → i < n → slot_order w p k i ≡ Met-as-Is (order (pre ++ S i) k)
+  pub slot-order : (k : List ℕ) → IsBytes k → (i : ℕ) → i < n → slot_order w p k i ≡ Ok (order (pre ++ S i) k)
   unfolding slot_order visit class_of
   slot-order k hk i h =
       let s = probe_suffix (frame_of p) k in
       let met : slot_meets p (slot_of p i) s ≡ order (S i) s =
       slot-meets (slot_of p i) p s (S i) (bytes-at i) (drop-bytes (frame_of p).prefix_len k hk) (length_at i h) (faithful-at i h) (long-at i) in
       let len = prefix-length w p size F in
-      rw (held_at i h, met, ← len) (ap Met-as-Is (by_class_lem pre (S i) k))
+      rw (held_at i h, met, ← len) (ap Ok (by_class_lem pre (S i) k))
 
   -- ---- the listing's keys
   pub key-at : (i : ℕ) → i < n → (d : List ℕ) → get_or (keys (listing w p)) i d ≡ pre ++ S i
@@ -160,22 +161,22 @@ module _ (w : ℕ) (p : List ℕ) (size : length p ≡ 16384) (b : IsBytes p) (F
         rw (key-at i l []) at (up_to_after (λ y. passed u (order y k)) (passed_falls u k) (keys (listing w p)) rises [] i h (rw length-keys l))
 
     module _ (hk : IsBytes k) where
-      found : (lo hi : ℕ) → lo ≤ r → r ≤ hi → hi ≤ n → search u w p k lo hi ≡ Bound-as-At r
+      found : (lo hi : ℕ) → lo ≤ r → r ≤ hi → hi ≤ n → search u w p k lo hi ≡ Ok r
       found lo hi x y z =
-          halving_to (turn u) Bound-as-At (slot_order w p k) n r
+          halving_to (turn u) Ok (slot_order w p k) n r
           (λ i h c d. unfold turn in rw (slot-order k hk i (omega (arith, r-le)), before i h))
           (λ i h l c d. unfold turn in rw (slot-order k hk i l, after i h l))
           n lo hi x y z (omega arith)
 
       -- ---- the window of hints in use, for a probe with the page's prefix
-      module _ (within-prefix : class_of (frame_of p) k ≡ Same) (used : in_use (frame_of p).flag n ≡ true) where
+      module _ (within-prefix : class_of (frame_of p) k ≡ Equal) (used : in_use (frame_of p).flag n ≡ true) where
         abbrev s : List ℕ
         s = probe_suffix (frame_of p) k
 
         suffix-order : (i : ℕ) → order (pre ++ S i) k ≡ order (S i) s
         suffix-order i =
             let len = prefix-length w p size F in
-            let c : order (take (length pre) k) pre ≡ Same = rw len (unfold class_of in within-prefix) in
+            let c : order (take (length pre) k) pre ≡ Equal = rw len (unfold class_of in within-prefix) in
             sym (by_class_lem pre (S i) k) ∙ rw (c, len) (unfold by_class in refl)
 
         many : 64 ≤ n
@@ -200,11 +201,11 @@ module _ (w : ℕ) (p : List ℕ) (size : length p ≡ 16384) (b : IsBytes p) (F
                 let k8 : suc m ≤ 8 = omega (arith, first_hint-le (leb (head_of s)) (hints_of p), length-hints) in
                 let g : (m + 1) * window n ≡ suc m * window n = rw add-one in
                 let low : get_or (hints_of p) m 0 < head_of s = leb-false (head_of s) (get_or (hints_of p) m 0) (first_hint-before (leb (head_of s)) (hints_of p) m (omega arith)) in
-                let c : order (S ((m + 1) * window n)) s ≡ Below =
+                let c : order (S ((m + 1) * window n)) s ≡ Less =
                 head_below (S ((m + 1) * window n)) s (bytes-at ((m + 1) * window n)) (drop-bytes (frame_of p).prefix_len k hk) (omega (arith, hint-at m (omega arith))) in
                 parted (dec_lt ((m + 1) * window n) r) (suffix-order ((m + 1) * window n) ∙ c) g (hint_slot n m many (omega arith))
               where
-                parted : Dec ((m + 1) * window n < r) → order (pre ++ S ((m + 1) * window n)) k ≡ Below → (m + 1) * window n ≡ suc m * window n
+                parted : Dec ((m + 1) * window n < r) → order (pre ++ S ((m + 1) * window n)) k ≡ Less → (m + 1) * window n ≡ suc m * window n
                     → (m + 1) * window n < n → suc m * window n ≤ r
                 parted (yes a) c g d = omega arith
                 parted (no a) c g d =
@@ -227,7 +228,7 @@ module _ (w : ℕ) (p : List ℕ) (size : length p ≡ 16384) (b : IsBytes p) (F
             here h (no a) = omega arith
             here h (yes a) =
                 let g : head_of s < get_or (hints_of p) up 0 = ltb-true (head_of s) (get_or (hints_of p) up 0) (first_hint-here (ltb (head_of s)) (hints_of p) (rw length-hints h)) in
-                let c : order s (S at) ≡ Below = head_below s (S at) (drop-bytes (frame_of p).prefix_len k hk) (bytes-at at) (omega (arith, hint-at up h)) in
+                let c : order s (S at) ≡ Less = head_below s (S at) (drop-bytes (frame_of p).prefix_len k hk) (bytes-at at) (omega (arith, hint-at up h)) in
                 never (passed u (order (pre ++ S at) k)) (before at a) (passed-above u (order (pre ++ S at) k) (suffix-order at ∙ order_below s (S at) c))
 
             go : Dec (first_hint (ltb (head_of s)) (hints_of p) < 8)
@@ -236,7 +237,7 @@ module _ (w : ℕ) (p : List ℕ) (size : length p ≡ 16384) (b : IsBytes p) (F
             go (yes h) = rw (ne_eqb up 8 (λ e. omega arith)) (here h (dec_lt at r), omega (arith, hint_slot n up many h))
             go (no h) = rw (eq-eqb up 8 (omega (arith, up_le))) (r-le, omega arith)
 
-      bound-in : class_of (frame_of p) k ≡ Same → bound_in u w p k ≡ Bound-as-At r
+      bound-in : class_of (frame_of p) k ≡ Equal → bound_in u w p k ≡ Ok r
       bound-in c = unfold bound_in in go (in_use (frame_of p).flag n) refl
         where
           head : ℕ
@@ -244,7 +245,7 @@ module _ (w : ℕ) (p : List ℕ) (size : length p ≡ 16384) (b : IsBytes p) (F
 
           go : (t : Bool) → in_use (frame_of p).flag n ≡ t
               → pick t (search u w p k (window_low (hints_of p) (head_of (probe_suffix (frame_of p) k)) n) (window_high (hints_of p) (head_of (probe_suffix (frame_of p) k)) n)) (search u w p k 0 n)
-              ≡ Bound-as-At r
+              ≡ Ok r
           go true e = found (window_low (hints_of p) head n) (window_high (hints_of p) head n) (low-le c e) (high-ge c e).0 (high-ge c e).1
           go false e = found 0 n (omega arith) r-le (omega arith)
 
@@ -253,19 +254,19 @@ module _ (w : ℕ) (p : List ℕ) (size : length p ≡ 16384) (b : IsBytes p) (F
       unfolding class_of
       key-class i = let len = prefix-length w p size F in rw (← len) (by_class_lem pre (S i) k)
 
-      pub bound-scan : bound u w p k ≡ Bound-as-At r
+      pub bound-scan : bound u w p k ≡ Ok r
       bound-scan = unfold bound in go (class_of (frame_of p) k) refl
         where
-          go : (c : Order) → class_of (frame_of p) k ≡ c → bound_by c n (bound_in u w p k) ≡ Bound-as-At r
-          go Same e = unfold bound_by in bound-in e
-          go Below e = unfold bound_by in ap Bound-as-At (none r refl)
+          go : (c : Ordering) → class_of (frame_of p) k ≡ c → bound_by c n (bound_in u w p k) ≡ Ok r
+          go Equal e = unfold bound_by in bound-in e
+          go Less e = unfold bound_by in ap Ok (none r refl)
             where
               none : (m : ℕ) → r ≡ m → 0 ≡ m
               none zero q = refl
               none (suc m) q =
                   never (passed u (order (pre ++ S 0) k)) (before 0 (omega arith))
                   (passed-above u (order (pre ++ S 0) k) (sym (key-class 0) ∙ rw e (unfold by_class in refl)))
-          go Above e = unfold bound_by in ap Bound-as-At (full (dec_lt r n))
+          go Greater e = unfold bound_by in ap Ok (full (dec_lt r n))
             where
               full : Dec (r < n) → n ≡ r
               full (no h) = omega (arith, r-le)
@@ -277,10 +278,10 @@ module _ (w : ℕ) (p : List ℕ) (size : length p ≡ 16384) (b : IsBytes p) (F
   differ-passed : (k : List ℕ) (i : ℕ) → passed false (order (pre ++ S i) k) ≡ true → differ k (pre ++ S i) ≡ true
   differ-passed k i h = go (order (pre ++ S i) k) refl h
     where
-      go : (o : Order) → order (pre ++ S i) k ≡ o → passed false o ≡ true → differ k (pre ++ S i) ≡ true
-      go Below e h = differ_sym k (pre ++ S i) ∙ (unfold differ in rw (order-less (pre ++ S i) k e))
-      go Same e h = never false (unfold passed in h) refl
-      go Above e h = never false (unfold passed in h) refl
+      go : (o : Ordering) → order (pre ++ S i) k ≡ o → passed false o ≡ true → differ k (pre ++ S i) ≡ true
+      go Less e h = differ_sym k (pre ++ S i) ∙ (unfold differ in rw (order-less (pre ++ S i) k e))
+      go Equal e h = never false (unfold passed in h) refl
+      go Greater e h = never false (unfold passed in h) refl
 
   differ-not : (k : List ℕ) (i : ℕ) → passed true (order (pre ++ S i) k) ≡ false → differ k (pre ++ S i) ≡ true
   differ-not k i h = go (differ k (pre ++ S i)) refl
@@ -288,7 +289,7 @@ module _ (w : ℕ) (p : List ℕ) (size : length p ≡ 16384) (b : IsBytes p) (F
       go : (t : Bool) → differ k (pre ++ S i) ≡ t → t ≡ true
       go true e = refl
       go false e =
-          let q : order (pre ++ S i) k ≡ Same = same_order (pre ++ S i) k (differ_no k (pre ++ S i) e) in
+          let q : order (pre ++ S i) k ≡ Equal = same_order (pre ++ S i) k (differ_no k (pre ++ S i) e) in
           never (passed true (order (pre ++ S i) k)) (rw q (unfold passed in refl)) h
 
   all-differ : (k : List ℕ) → ((i : ℕ) → i < n → differ k (pre ++ S i) ≡ true) → all (differ k) (keys (listing w p)) ≡ true
@@ -300,17 +301,17 @@ module _ (w : ℕ) (p : List ℕ) (size : length p ≡ 16384) (b : IsBytes p) (F
       r0 : ℕ
       r0 = scan false k (listing w p)
 
-      at : scan false k (listing w p) < n → (o : Order) → order (pre ++ S (scan false k (listing w p))) k ≡ o
-          → tested (scan false k (listing w p)) (Met-as-Is o) ≡ pick (all (differ k) (keys (listing w p))) (Smaller (scan false k (listing w p))) (Equal (scan false k (listing w p)))
-      at h Below e = never (passed false (order (pre ++ S r0) k)) (passed_below false (order (pre ++ S r0) k) e) (after false k r0 (omega arith) h)
-      at h Same e = unfold tested in equal (all (differ k) (keys (listing w p))) refl
+      at : scan false k (listing w p) < n → (o : Ordering) → order (pre ++ S (scan false k (listing w p))) k ≡ o
+          → tested (scan false k (listing w p)) (Ok o) ≡ pick (all (differ k) (keys (listing w p))) (Ok (Smaller (scan false k (listing w p)))) (Ok (Found-as-Equal (scan false k (listing w p))))
+      at h Less e = never (passed false (order (pre ++ S r0) k)) (passed_below false (order (pre ++ S r0) k) e) (after false k r0 (omega arith) h)
+      at h Equal e = unfold tested in equal (all (differ k) (keys (listing w p))) refl
         where
-          equal : (t : Bool) → all (differ k) (keys (listing w p)) ≡ t → Equal r0 ≡ pick t (Smaller r0) (Equal r0)
+          equal : (t : Bool) → all (differ k) (keys (listing w p)) ≡ t → ◌≡◌ {A = Result Found Refusal} (Ok (Found-as-Equal r0)) (pick t (Ok (Smaller r0)) (Ok (Found-as-Equal r0)))
           equal false q = refl
           equal true q =
               never (differ k (pre ++ S r0)) (rw (key-at r0 h []) at (all-at (differ k) (keys (listing w p)) q r0 [] (rw length-keys h)))
               (differ_same k (pre ++ S r0) (order_same (pre ++ S r0) k e))
-      at h Above e = unfold tested in rw (all-differ k here)
+      at h Greater e = unfold tested in rw (all-differ k here)
         where
           top : ℕ
           top = scan true k (listing w p)
@@ -327,7 +328,7 @@ module _ (w : ℕ) (p : List ℕ) (size : length p ≡ 16384) (b : IsBytes p) (F
               ]
 
       go : Dec (scan false k (listing w p) < n)
-          → pick (ltb (scan false k (listing w p)) n) (tested (scan false k (listing w p)) (slot_order w p k (scan false k (listing w p)))) (Smaller (scan false k (listing w p)))
-          ≡ pick (all (differ k) (keys (listing w p))) (Smaller (scan false k (listing w p))) (Equal (scan false k (listing w p)))
+          → pick (ltb (scan false k (listing w p)) n) (tested (scan false k (listing w p)) (slot_order w p k (scan false k (listing w p)))) (Ok (Smaller (scan false k (listing w p))))
+          ≡ pick (all (differ k) (keys (listing w p))) (Ok (Smaller (scan false k (listing w p)))) (Ok (Found-as-Equal (scan false k (listing w p))))
       go (yes h) = rw (lt-ltb r0 n h, slot-order k hk r0 h) (at h (order (pre ++ S r0) k) refl)
       go (no h) = rw (le-ltb r0 n (omega arith), all-differ k (λ i m. differ-passed k i (before false k i (omega arith))))

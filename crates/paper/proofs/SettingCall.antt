@@ -17,8 +17,6 @@ use Rattle.paper.specs.Listing.{Entry, listing, keys}
 use Rattle.paper.specs.Edits.{value_set}
 use Rattle.paper.specs.Searches.{scan}
 use Rattle.paper.specs.Calls.{is_width, fits_width, has_prefix, stored_value, set_checks, set_of, set_page, fit_verdict}
-use Rattle.paper.specs.declared.answers.Replaced.TheVariants.{Old, Refused as Replaced-as-Refused}
-use Rattle.paper.specs.declared.answers.Verdict.TheVariants.{Is as Verdict-as-Is}
 use Rattle.paper.proofs.Lists.{both_parts}
 use Rattle.paper.proofs.Swaps.{getD-swap, getD-swap-other}
 use Rattle.paper.proofs.Judging.{fit_passed}
@@ -26,9 +24,10 @@ use Rattle.paper.proofs.Fit.{Fit, fit, fit_back}
 use Rattle.paper.proofs.Filing.{length-listing}
 use Rattle.paper.proofs.Searching.{rises, length-keys}
 use Rattle.paper.proofs.Listed.{listed, present_at}
-use Rattle.paper.proofs.Holding.{Hold, judge_hold, hold_judge}
+use Rattle.paper.proofs.Holding.{Hold, judge_hold, answer_holds}
 use Rattle.paper.proofs.Setting.{length-set, set-bytes, set-frame, set-header}
 use Rattle.paper.proofs.SettingFit.{set-fits, set-listing, set-keys-listing}
+use Rattle.std.specs.Prelude.{Ok, Err}
 
 -- what the tests say
 pub record Sets (w : ℕ) (p k : List ℕ) (expected new : ℕ) : Type 0 where
@@ -65,10 +64,9 @@ sets w p k expected new H =
     }
 
 -- an old value that was answered says that all tests held
-pub set-held : (w : ℕ) (p k : List ℕ) (expected new v : ℕ) → set_of w p k expected new ≡ Old v → Hold (set_checks w p k expected new)
+pub set-held : (w : ℕ) (p k : List ℕ) (expected new v : ℕ) → set_of w p k expected new ≡ Ok v → Hold (set_checks w p k expected new)
 unfolding set_of
-set-held w p k expected new v e =
-    hold_judge (set_checks w p k expected new) (Old (stored_value w p k)) (Old v) Replaced-as-Refused (λ f q. let z : ◌≡◌ {A = ℕ} 0 1 = cc in omega arith) e
+set-held w p k expected new v e = answer_holds (set_checks w p k expected new) (stored_value w p k) v e
 
 module _ (w : ℕ) (p k : List ℕ) (expected new : ℕ) (b : IsBytes p) (H : Hold (set_checks w p k expected new)) where
   abbrev i : ℕ
@@ -93,13 +91,13 @@ module _ (w : ℕ) (p k : List ℕ) (expected new : ℕ) (b : IsBytes p) (H : Ho
   unfolding stored_value
   set-stored d = sym (ap (λ (e : Entry). e.value) (listed w p i d set_there))
 
-  pub set-answer : set_of w p k expected new ≡ Old (stored_value w p k)
+  pub set-answer : set_of w p k expected new ≡ Ok (stored_value w p k)
   unfolding set_of
-  set-answer = judge_hold (set_checks w p k expected new) (Old (stored_value w p k)) Replaced-as-Refused H
+  set-answer = judge_hold (set_checks w p k expected new) (Ok (stored_value w p k)) Err H
 
   -- and it is the expected one
-  pub set-expected : set_of w p k expected new ≡ Old expected
-  set-expected = set-answer ∙ ap Old S.stored
+  pub set-expected : set_of w p k expected new ≡ Ok expected
+  set-expected = set-answer ∙ ap Ok S.stored
 
   -- ---- the page
   pub set-page : set_page w p k expected new ≡ value_set w p i new
@@ -115,7 +113,7 @@ module _ (w : ℕ) (p k : List ℕ) (expected new : ℕ) (b : IsBytes p) (H : Ho
   pub set-page-fit : Fit w (view_of w q)
   set-page-fit = rw set-page (set-fits w p i new S.size b S.fit set_there S.new_fits)
 
-  pub set-verdict : fit_verdict w q ≡ Verdict-as-Is 0
+  pub set-verdict : fit_verdict w q ≡ Ok 0
   set-verdict = fit_passed w q (record { size = set-size; width = S.width; fit = unfold fit_of in fit_back w (view_of w q) set-page-fit })
 
   pub set-page-frame : frame_of q ≡ frame_of p

@@ -8,49 +8,50 @@ use native.Mathlib.Omega.{arith}
 use lib.ListN.{length, take}
 use lib.Seq.{take-append_seam}
 use Rattle.keys.specs.Choice.{pick, both}
-use Rattle.keys.specs.Keys.{order, flip, common}
-use Rattle.keys.specs.declared.order.Order.{Order}
-use Rattle.keys.specs.declared.order.Order.TheVariants.{Below, Same, Above}
+use Rattle.keys.specs.Keys.{order, common}
 use Rattle.keys.proofs.Numbers.{below_above}
 use Rattle.keys.proofs.Orders.{order_refl, order_flip, order_same, order_trans, order-above}
 use Rattle.keys.proofs.Prefixes.{common-append, common-take}
 use Rattle.keys.proofs.Between.{nearer-above}
-use Rattle.paper.specs.Lists.{ins, all, up_to, is_below, less, differ, below_first, rising}
+use Rattle.paper.specs.Lists.{ins, all, up_to, less, differ, below_first, rising}
 use Rattle.paper.specs.Listing.{Entry, file}
 use Rattle.paper.specs.Searches.{passed, scan}
 use Rattle.paper.proofs.Lists.{both_parts, both_yes}
+use Rattle.std.specs.declared.cmp.Ordering.{Ordering}
+use Rattle.std.specs.declared.cmp.Ordering.TheVariants.{Less, Equal, Greater}
+use Rattle.std.specs.Ordering.{is_lt, ordering_reverse}
 
 -- no test is both
 pub never : {A : Type 0} (b : Bool) → b ≡ true → b ≡ false → A
 never b e f = absurd (let z : ◌≡◌ {A = ℕ} 0 1 = cc in omega arith)
 
 -- ---- less and differ
-pub less-order : (a b : List ℕ) → less a b ≡ true → order a b ≡ Below
+pub less-order : (a b : List ℕ) → less a b ≡ true → order a b ≡ Less
 unfolding less
 less-order a b = go (order a b)
   where
-    go : (o : Order) → is_below o ≡ true → o ≡ Below
-    go Below e = refl
-    go Same e = unfold is_below in never false e refl
-    go Above e = unfold is_below in never false e refl
+    go : (o : Ordering) → is_lt o ≡ true → o ≡ Less
+    go Less e = refl
+    go Equal e = never false e refl
+    go Greater e = never false e refl
 
-pub order-less : (a b : List ℕ) → order a b ≡ Below → less a b ≡ true
-unfolding less is_below
+pub order-less : (a b : List ℕ) → order a b ≡ Less → less a b ≡ true
+unfolding less
 order-less a b e = rw e
 
 -- what is not smaller is not below
-pub not-less : (a b : List ℕ) → less a b ≡ false → order a b ≡ Below → ⊥
+pub not-less : (a b : List ℕ) → less a b ≡ false → order a b ≡ Less → ⊥
 not-less a b e f = never (less a b) (order-less a b f) e
 
 pub less_trans : (a b c : List ℕ) → less a b ≡ true → less b c ≡ true → less a c ≡ true
 less_trans a b c e f = order-less a c (order_trans a b c (less-order a b e) (less-order b c f))
 
 pub less-flip : (a b : List ℕ) → less a b ≡ true → less b a ≡ false
-unfolding less is_below flip
+unfolding less
 less-flip a b e = rw (order_flip a b, less-order a b e)
 
 pub less_self : (a : List ℕ) → less a a ≡ false
-unfolding less is_below
+unfolding less
 less_self a = rw (order_refl a)
 
 pub differ_up : (a b : List ℕ) → differ a b ≡ true → less a b ≡ false → less b a ≡ true
@@ -73,13 +74,13 @@ differ_same k y e = rw (e, less_self k)
 
 -- keys that do not differ are the same
 pub differ_no : (a b : List ℕ) → differ a b ≡ false → b ≡ a
-unfolding differ less flip is_below
+unfolding differ less
 differ_no a b e = go (order a b) refl (rw (order_flip a b) at e)
   where
-    go : (o : Order) → order a b ≡ o → pick (is_below o) true (is_below (flip o)) ≡ false → b ≡ a
-    go Below q e = never true refl e
-    go Same q e = sym (order_same a b q)
-    go Above q e = never true refl e
+    go : (o : Ordering) → order a b ≡ o → pick (is_lt o) true (is_lt (ordering_reverse o)) ≡ false → b ≡ a
+    go Less q e = never true refl e
+    go Equal q e = sym (order_same a b q)
+    go Greater q e = never true refl e
 
 -- ---- scans
 pub up_to_le : {A : Type 0} (f : A → Bool) (l : List A) → up_to f l ≤ length l
@@ -96,10 +97,10 @@ pub passed-less : (y k : List ℕ) → passed false (order y k) ≡ less y k
 unfolding less
 passed-less y k = go (order y k)
   where
-    go : (o : Order) → passed false o ≡ is_below o
-    go Below = unfold passed is_below in refl
-    go Same = unfold passed is_below in refl
-    go Above = unfold passed is_below in refl
+    go : (o : Ordering) → passed false o ≡ is_lt o
+    go Less = unfold passed in refl
+    go Equal = unfold passed in refl
+    go Greater = unfold passed in refl
 
 -- the place where a key belongs
 abbrev pub spot : List ℕ → List (List ℕ) → ℕ
@@ -166,5 +167,5 @@ fenced-prefix pre a k b h l =
     let nearer = nearer-above (pre ++ a) k (pre ++ b) above_lower (λ f. below_above (sym (less-order k (pre ++ b) l) ∙ f)) in
     sym (common-take (pre ++ a) k (length pre) (omega arith)) ∙ take-append_seam pre a
   where
-    above_lower : order (pre ++ a) k ≡ Above → ⊥
+    above_lower : order (pre ++ a) k ≡ Greater → ⊥
     above_lower f = not-less k (pre ++ a) h (order-above (pre ++ a) k f)

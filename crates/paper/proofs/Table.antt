@@ -8,12 +8,12 @@ use lib.Dec.{eqb}
 use lib.ListN.{length, get_or}
 use Rattle.octets.specs.Bytes.{be}
 use Rattle.keys.specs.Keys.{by_number, order, head_of, common}
-use Rattle.keys.specs.declared.order.Order.{Order}
-use Rattle.keys.specs.declared.order.Order.TheVariants.{Below, Same, Above}
 use Rattle.paper.specs.Lists.{all}
 use Rattle.paper.specs.Page.{body_bytes}
 use Rattle.paper.specs.Space.{need}
 use Rattle.paper.proofs.Lists.{all-at}
+use Rattle.std.specs.declared.cmp.Ordering.{Ordering}
+use Rattle.std.specs.declared.cmp.Ordering.TheVariants.{Less, Equal, Greater}
 
 pub record Sample : Type 0 where
   pub got : ℕ
@@ -23,10 +23,10 @@ abbrev sample : ℕ → ℕ → Sample
 sample g w = record { got = g; want = w }
 
 -- an order as a number: 0 for "before"
-abbrev rank : Order → ℕ
-rank Below = 0
-rank Same = 1
-rank Above = 2
+abbrev rank : Ordering → ℕ
+rank Less = 0
+rank Equal = 1
+rank Greater = 2
 
 -- "a", "a\0", "abcd", "abcde", "abcdf", "parcel", "hub/A", "hub/B"
 abbrev a : List ℕ

@@ -1,6 +1,6 @@
 -- "Calls and refusal numbers": for each call its tests in order, its answer, and what every lent byte holds afterwards. A refused call
 -- leaves every byte as it was.
-use Rattle.std.specs.Prelude.{ℕ, ◌+◌, ◌-◌, ◌^◌, Bool, true, false, not, List, [], ◌∷◌, ◌++◌, leb, ltb, eqb, length, take, drop, get_or}
+use Rattle.std.specs.Prelude.{ℤ, ℕ, ◌+◌, ◌-◌, ◌^◌, Bool, true, false, not, List, [], ◌∷◌, ◌++◌, leb, ltb, eqb, length, take, drop, get_or, Result, Ok, Err, ⊤}
 use Rattle.octets.specs.Bytes.{le, be, put}
 use Rattle.keys.specs.Choice.{pick, both}
 use Rattle.keys.specs.Keys.{common, same_list}
@@ -14,36 +14,13 @@ use Rattle.paper.specs.Edits.{Begin, begun, inserted, value_set, outgrows, key_c
 use Rattle.paper.specs.Searches.{probe_suffix, slot_order, sign_of, bound, find_at, scan, child_scan}
 use Rattle.paper.specs.declared.page.Slot.{Slot}
 use Rattle.paper.specs.declared.refusal.Refusal.TheVariants.{PageLength, Width, KeyLength, HeaderRules, NotFit, FenceOrder, ValueRange, Prefix, OutsideFences, SlotNumber, Present, Neighbours, NoRoom, Payload, BufferLength, ShortKey, NotFound, OtherValue}
-use Rattle.paper.specs.declared.answers.Met.{Met}
-use Rattle.paper.specs.declared.answers.Met.TheVariants.{Is as Met-as-Is, Refused as Met-as-Refused}
-use Rattle.paper.specs.declared.answers.Edited.{Edited}
-use Rattle.paper.specs.declared.answers.Edited.TheVariants.{Done, Refused as Edited-as-Refused}
-use Rattle.paper.specs.declared.answers.Filed.{Filed}
-use Rattle.paper.specs.declared.answers.Filed.TheVariants.{At as Filed-as-At, Refused as Filed-as-Refused}
-use Rattle.paper.specs.declared.answers.Replaced.{Replaced}
-use Rattle.paper.specs.declared.answers.Replaced.TheVariants.{Old, Refused as Replaced-as-Refused}
-use Rattle.paper.specs.declared.answers.Found.{Found}
-use Rattle.paper.specs.declared.answers.Found.TheVariants.{Refused as Found-as-Refused}
-use Rattle.paper.specs.declared.answers.Bound.{Bound}
-use Rattle.paper.specs.declared.answers.Bound.TheVariants.{Refused as Bound-as-Refused}
-use Rattle.paper.specs.declared.answers.Compared.{Compared}
-use Rattle.paper.specs.declared.answers.Compared.TheVariants.{Sign, Refused as Compared-as-Refused}
+use Rattle.std.specs.declared.cmp.Ordering.{Ordering}
+use Rattle.paper.specs.declared.refusal.Refusal.{Refusal}
+use Rattle.paper.specs.declared.answers.Space.{Space}
 use Rattle.paper.specs.declared.answers.Child.{Child}
-use Rattle.paper.specs.declared.answers.Child.TheVariants.{Refused as Child-as-Refused}
 use Rattle.paper.specs.declared.answers.EntryRead.{EntryRead}
-use Rattle.paper.specs.declared.answers.EntryRead.TheVariants.{Is as Entry-as-Is, Refused as Entry-as-Refused}
-use Rattle.paper.specs.declared.answers.Copied.{Copied}
-use Rattle.paper.specs.declared.answers.Copied.TheVariants.{Bytes as Copied-as-Bytes, Refused as Copied-as-Refused}
-use Rattle.paper.specs.declared.answers.Trailing.{Trailing}
-use Rattle.paper.specs.declared.answers.Trailing.TheVariants.{Id, Refused as Trailing-as-Refused}
-use Rattle.paper.specs.declared.answers.SpaceRead.{SpaceRead}
-use Rattle.paper.specs.declared.answers.SpaceRead.TheVariants.{Are as Space-as-Are, Refused as Space-as-Refused}
-use Rattle.paper.specs.declared.answers.Needed.{Needed}
-use Rattle.paper.specs.declared.answers.Needed.TheVariants.{Bytes as Needed-as-Bytes, Refused as Needed-as-Refused}
 use Rattle.paper.specs.declared.answers.Forecast.{Forecast}
-use Rattle.paper.specs.declared.answers.Forecast.TheVariants.{Are as Forecast-as-Are, Refused as Forecast-as-Refused}
-use Rattle.paper.specs.declared.answers.Verdict.{Verdict}
-use Rattle.paper.specs.declared.answers.Verdict.TheVariants.{Is as Verdict-as-Is, Refused as Verdict-as-Refused}
+use Rattle.paper.specs.declared.answers.Found.{Found}
 
 -- ---- the tests of the table, each under its own number; p is a page, w a width, k a key, v a value, i a slot number
 -- 1 "page not 16,384 bytes"
@@ -102,8 +79,8 @@ begin_checks p b =
     ∷ check (leb (begin_bytes b.lower b.upper) 16256) NoRoom
     ∷ []
 
-unfoldable pub begin_of : List ℕ → Begin → Edited
-begin_of p b = judge (begin_checks p b) Done Edited-as-Refused
+unfoldable pub begin_of : List ℕ → Begin → Result ⊤ Refusal
+begin_of p b = judge (begin_checks p b) (Ok tt) Err
 
 unfoldable pub begin_page : List ℕ → Begin → List ℕ
 begin_page p b = judge (begin_checks p b) (begun p b) (λ r. p)
@@ -122,8 +99,8 @@ insert_checks w p k v =
     ∷ check (leb (need w (length (probe_suffix (frame_of p) k))) (free (numbers_of p))) NoRoom
     ∷ []
 
-unfoldable pub insert_of : ℕ → List ℕ → List ℕ → ℕ → Filed
-insert_of w p k v = judge (insert_checks w p k v) (Filed-as-At (scan false k (listing w p))) Filed-as-Refused
+unfoldable pub insert_of : ℕ → List ℕ → List ℕ → ℕ → Result ℕ Refusal
+insert_of w p k v = judge (insert_checks w p k v) (Ok (scan false k (listing w p))) Err
 
 unfoldable pub insert_page : ℕ → List ℕ → List ℕ → ℕ → List ℕ
 insert_page w p k v = judge (insert_checks w p k v) (inserted w p (scan false k (listing w p)) (probe_suffix (frame_of p) k) v) (λ r. p)
@@ -144,8 +121,8 @@ set_checks w p k expected new =
     ∷ check (eqb (stored_value w p k) expected) (OtherValue (stored_value w p k))
     ∷ []
 
-unfoldable pub set_of : ℕ → List ℕ → List ℕ → ℕ → ℕ → Replaced
-set_of w p k expected new = judge (set_checks w p k expected new) (Old (stored_value w p k)) Replaced-as-Refused
+unfoldable pub set_of : ℕ → List ℕ → List ℕ → ℕ → ℕ → Result ℕ Refusal
+set_of w p k expected new = judge (set_checks w p k expected new) (Ok (stored_value w p k)) Err
 
 unfoldable pub set_page : ℕ → List ℕ → List ℕ → ℕ → ℕ → List ℕ
 set_page w p k expected new = judge (set_checks w p k expected new) (value_set w p (scan false k (listing w p)) new) (λ r. p)
@@ -173,8 +150,8 @@ change_checks w p i k =
     ∷ check (room_for_key w p i (probe_suffix (frame_of p) k)) NoRoom
     ∷ []
 
-unfoldable pub change_of : ℕ → List ℕ → ℕ → List ℕ → Edited
-change_of w p i k = judge (change_checks w p i k) Done Edited-as-Refused
+unfoldable pub change_of : ℕ → List ℕ → ℕ → List ℕ → Result ⊤ Refusal
+change_of w p i k = judge (change_checks w p i k) (Ok tt) Err
 
 unfoldable pub change_page : ℕ → List ℕ → ℕ → List ℕ → List ℕ
 change_page w p i k = judge (change_checks w p i k) (key_changed w p i (probe_suffix (frame_of p) k)) (λ r. p)
@@ -209,8 +186,8 @@ run_checks w p q a n =
     ∷ check (leb (need_of_all w p (run w q a n)) (free (numbers_of p))) NoRoom
     ∷ []
 
-unfoldable pub run_of : ℕ → List ℕ → List ℕ → ℕ → ℕ → Edited
-run_of w p q a n = judge (run_checks w p q a n) Done Edited-as-Refused
+unfoldable pub run_of : ℕ → List ℕ → List ℕ → ℕ → ℕ → Result ⊤ Refusal
+run_of w p q a n = judge (run_checks w p q a n) (Ok tt) Err
 
 unfoldable pub run_page : ℕ → List ℕ → List ℕ → ℕ → ℕ → List ℕ
 run_page w p q a n = judge (run_checks w p q a n) (run_copied w p (run w q a n)) (λ r. p)
@@ -222,38 +199,38 @@ probe_checks w p k = page_length p ∷ width_known w ∷ key_length k ∷ rules_
 abbrev pub find_checks : ℕ → List ℕ → List ℕ → List Check
 find_checks w p k = probe_checks w p k ++ prefix_held p k ∷ []
 
-unfoldable pub find_of : ℕ → List ℕ → List ℕ → Found
-find_of w p k = judge (find_checks w p k) (find_at w p k (bound false w p k)) Found-as-Refused
+unfoldable pub find_of : ℕ → List ℕ → List ℕ → Result Found Refusal
+find_of w p k = judge (find_checks w p k) (find_at w p k (bound false w p k)) Err
 
 -- ---- lower (u false) and upper (u true) bound 1, 2, 3, 4, 14
-unfoldable pub bound_of : Bool → ℕ → List ℕ → List ℕ → Bound
-bound_of u w p k = judge (probe_checks w p k) (bound u w p k) Bound-as-Refused
+unfoldable pub bound_of : Bool → ℕ → List ℕ → List ℕ → Result ℕ Refusal
+bound_of u w p k = judge (probe_checks w p k) (bound u w p k) Err
 
 -- ---- compare slot with probe 1, 2, 3, 4, 10, 14
-unfoldable pub compared : Met → Compared
-compared (Met-as-Is o) = Sign (sign_of o)
-compared (Met-as-Refused r) = Compared-as-Refused r
+unfoldable pub compared : Result Ordering Refusal → Result ℤ Refusal
+compared (Ok o) = Ok (sign_of o)
+compared (Err r) = Err r
 
 abbrev pub compare_checks : ℕ → List ℕ → ℕ → List ℕ → List Check
 compare_checks w p i k = probe_checks w p k ++ slot_there p i ∷ []
 
-unfoldable pub compare_of : ℕ → List ℕ → ℕ → List ℕ → Compared
-compare_of w p i k = judge (compare_checks w p i k) (compared (slot_order w p k i)) Compared-as-Refused
+unfoldable pub compare_of : ℕ → List ℕ → ℕ → List ℕ → Result ℤ Refusal
+compare_of w p i k = judge (compare_checks w p i k) (compared (slot_order w p k i)) Err
 
 -- ---- child number (width 8, any height) 1, 3, 5, 8, 9
 abbrev pub child_checks : List ℕ → List ℕ → List Check
 child_checks p k = page_length p ∷ key_length k ∷ is_fit 8 p ∷ prefix_held p k ∷ inside_fences p k ∷ []
 
-unfoldable pub child_of : List ℕ → List ℕ → Child
-child_of p k = judge (child_checks p k) (child_scan (frame_of p).lower_value k (listing 8 p)) Child-as-Refused
+unfoldable pub child_of : List ℕ → List ℕ → Result Child Refusal
+child_of p k = judge (child_checks p k) (Ok (child_scan (frame_of p).lower_value k (listing 8 p))) Err
 
 -- ---- entry 1, 2, 4, 10, 14
 abbrev pub entry_tests : ℕ → List ℕ → ℕ → List Check
 entry_tests w p i = page_length p ∷ width_known w ∷ rules_hold p ∷ slot_there p i ∷ payload_held w p i ∷ []
 
 -- the answer is the slot, by which `key_at` reads the key, and the value
-unfoldable pub read_entry : ℕ → List ℕ → ℕ → EntryRead
-read_entry w p i = judge (entry_tests w p i) (Entry-as-Is (slot_of p i) (le w p (value_at (slot_of p i)))) Entry-as-Refused
+unfoldable pub read_entry : ℕ → List ℕ → ℕ → Result EntryRead Refusal
+read_entry w p i = judge (entry_tests w p i) (Ok (record { slot = slot_of p i; value = le w p (value_at (slot_of p i)) })) Err
 
 -- the key of the entry in that slot
 unfoldable pub key_at : List ℕ → Slot → List ℕ
@@ -263,8 +240,8 @@ key_at p s = (frame_of p).prefix ++ suffix_of p s
 unfoldable pub copy_checks : ℕ → List ℕ → ℕ → List ℕ → List Check
 copy_checks w p i out = entry_tests w p i ++ check (leb (length (key_at p (slot_of p i))) (length out)) BufferLength ∷ []
 
-unfoldable pub copy_of : ℕ → List ℕ → ℕ → List ℕ → Copied
-copy_of w p i out = judge (copy_checks w p i out) (Copied-as-Bytes (length (key_at p (slot_of p i)))) Copied-as-Refused
+unfoldable pub copy_of : ℕ → List ℕ → ℕ → List ℕ → Result ℕ Refusal
+copy_of w p i out = judge (copy_checks w p i out) (Ok (length (key_at p (slot_of p i)))) Err
 
 unfoldable pub copy_buffer : ℕ → List ℕ → ℕ → List ℕ → List ℕ
 copy_buffer w p i out = judge (copy_checks w p i out) (put out 0 (key_at p (slot_of p i))) (λ r. out)
@@ -273,36 +250,36 @@ copy_buffer w p i out = judge (copy_checks w p i out) (put out 0 (key_at p (slot
 abbrev pub trailing_checks : ℕ → List ℕ → ℕ → List Check
 trailing_checks w p i = entry_tests w p i ++ check (leb 8 (length (key_at p (slot_of p i)))) ShortKey ∷ []
 
-unfoldable pub trailing_of : ℕ → List ℕ → ℕ → Trailing
-trailing_of w p i = let k = key_at p (slot_of p i) in judge (trailing_checks w p i) (Id (be 8 k (length k - 8))) Trailing-as-Refused
+unfoldable pub trailing_of : ℕ → List ℕ → ℕ → Result ℕ Refusal
+trailing_of w p i = let k = key_at p (slot_of p i) in judge (trailing_checks w p i) (Ok (be 8 k (length k - 8))) Err
 
 -- ---- space numbers "1, 4, and 5 (with 8) where effective exceeds used"
 abbrev pub space_checks : List ℕ → List Check
 space_checks p = page_length p ∷ rules_hold p ∷ check (leb (numbers_of p).effective (used (numbers_of p))) (NotFit 8) ∷ []
 
-unfoldable pub space_read : List ℕ → SpaceRead
-space_read p = judge (space_checks p) (Space-as-Are (space_of (numbers_of p))) Space-as-Refused
+unfoldable pub space_read : List ℕ → Result Space Refusal
+space_read p = judge (space_checks p) (Ok (space_of (numbers_of p))) Err
 
 -- ---- need of an entry 2, 3, 8, "from a key and a prefix length (8: key shorter)"
 abbrev pub need_checks : ℕ → ℕ → List ℕ → List Check
 need_checks w n k = width_known w ∷ key_length k ∷ check (leb n (length k)) Prefix ∷ []
 
-unfoldable pub need_of : ℕ → ℕ → List ℕ → Needed
-need_of w n k = judge (need_checks w n k) (Needed-as-Bytes (need w (length k - n))) Needed-as-Refused
+unfoldable pub need_of : ℕ → ℕ → List ℕ → Result ℕ Refusal
+need_of w n k = judge (need_checks w n k) (Ok (need w (length k - n))) Err
 
 -- ---- forecast from two fences 3: "common prefix length, and 96 plus the body bytes of prefix and fences"
 abbrev pub forecast_checks : List ℕ → List ℕ → List Check
 forecast_checks lower upper = key_length lower ∷ key_length upper ∷ []
 
-unfoldable pub forecast_of : List ℕ → List ℕ → Forecast
-forecast_of lower upper = judge (forecast_checks lower upper) (Forecast-as-Are (common lower upper) (96 + begin_bytes lower upper)) Forecast-as-Refused
+unfoldable pub forecast_of : List ℕ → List ℕ → Result Forecast Refusal
+forecast_of lower upper = judge (forecast_checks lower upper) (Ok (record { prefix_len = common lower upper; space = 96 + begin_bytes lower upper })) Err
 
 -- ---- layout and fit verdict 1, 2
 abbrev pub verdict_checks : ℕ → List ℕ → List Check
 verdict_checks w p = page_length p ∷ width_known w ∷ []
 
-unfoldable pub layout_verdict : ℕ → List ℕ → Verdict
-layout_verdict w p = judge (verdict_checks w p) (Verdict-as-Is (pick (layout_of w p) 1 0)) Verdict-as-Refused
+unfoldable pub layout_verdict : ℕ → List ℕ → Result Bool Refusal
+layout_verdict w p = judge (verdict_checks w p) (Ok (layout_of w p)) Err
 
-unfoldable pub fit_verdict : ℕ → List ℕ → Verdict
-fit_verdict w p = judge (verdict_checks w p) (Verdict-as-Is (fit_of w p)) Verdict-as-Refused
+unfoldable pub fit_verdict : ℕ → List ℕ → Result ℕ Refusal
+fit_verdict w p = judge (verdict_checks w p) (Ok (fit_of w p)) Err

@@ -1,5 +1,5 @@
 -- Demand 3, in the customer's words and order.
-use Rattle.std.specs.Prelude.{◌≡◌, ℕ, ◌≤◌, Bool, true, false, length, take, get_or, ltb}
+use Rattle.std.specs.Prelude.{◌≡◌, ℕ, ◌≤◌, Bool, true, false, length, take, get_or, ltb, Result, Ok, Err}
 use mathlib.Core.List.{List, [], ◌∷◌, ◌++◌, Permᴰ}
 use Rattle.octets.specs.Bytes.{IsBytes}
 use Rattle.keys.specs.Choice.{both}
@@ -13,22 +13,16 @@ use Rattle.paper.specs.Refusals.{check, judge}
 use Rattle.paper.specs.declared.refusal.Refusal.TheVariants.{SlotNumber}
 use Rattle.paper.specs.Searches.{sign_of, scan, find_scan, child_scan}
 use Rattle.paper.specs.Calls.{key_length, fits_width, prefix_held, inside_fences, insert_of, insert_page, find_of, bound_of, compare_of, child_of, fit_verdict, need_of_all}
-use Rattle.paper.specs.declared.answers.Filed.{Filed}
-use Rattle.paper.specs.declared.answers.Filed.TheVariants.{At as Filed-as-At, Refused as Filed-as-Refused}
-use Rattle.paper.specs.declared.answers.Found.TheVariants.{Refused as Found-as-Refused}
-use Rattle.paper.specs.declared.answers.Bound.TheVariants.{At as Bound-as-At, Refused as Bound-as-Refused}
-use Rattle.paper.specs.declared.answers.Compared.TheVariants.{Sign, Refused as Compared-as-Refused}
-use Rattle.paper.specs.declared.answers.Child.TheVariants.{Refused as Child-as-Refused}
-use Rattle.paper.specs.declared.answers.Verdict.TheVariants.{Is as Verdict-as-Is}
+use Rattle.paper.specs.declared.refusal.Refusal.{Refusal}
 
 -- "file them .. each by the insert that refreshes hints": the page after all of them
 unfoldable pub page_after : ℕ → List ℕ → List Entry → List ℕ
 page_after w p [] = p
 page_after w p (e ∷ es) = page_after w (insert_page w p e.key e.value) es
 
-unfoldable pub is_accepted : Filed → Bool
-is_accepted (Filed-as-At i) = true
-is_accepted (Filed-as-Refused r) = false
+unfoldable pub is_accepted : Result ℕ Refusal → Bool
+is_accepted (Ok i) = true
+is_accepted (Err r) = false
 
 -- were all of them accepted, each on the page that the ones before it left
 unfoldable pub all_accepted : ℕ → List ℕ → List Entry → Bool
@@ -39,7 +33,7 @@ all_accepted w p (e ∷ es) = both (is_accepted (insert_of w p e.key e.value)) (
 pub record Given (w : ℕ) (p : List ℕ) (es : List Entry) : Type 0 where
   -- "a page that passes 01's fit check at its width"
   pub bytes : IsBytes p
-  pub fit : fit_verdict w p ≡ Verdict-as-Is 0
+  pub fit : fit_verdict w p ≡ Ok 0
   -- "records with pairwise different keys, none on the page, all inside its fences, values that fit the width"
   pub key_bytes : (i : ℕ) → IsBytes (get_or es i (record { key = []; value = 0 })).key
   pub different : pairs (λ a b. differ a.key b.key) es ≡ true
@@ -53,13 +47,13 @@ pub record Given (w : ℕ) (p : List ℕ) (es : List Entry) : Type 0 where
 -- first page p and the listing say
 pub record Searched (w : ℕ) (p q : List ℕ) (l : List Entry) : Type 0 where
   -- lower (u false) and upper (u true) bound
-  pub bound : (u : Bool) (k : List ℕ) → IsBytes k → bound_of u w q k ≡ judge (key_length k ∷ []) (Bound-as-At (scan u k l)) Bound-as-Refused
-  pub find : (k : List ℕ) → IsBytes k → find_of w q k ≡ judge (key_length k ∷ prefix_held p k ∷ []) (find_scan k l) Found-as-Refused
+  pub bound : (u : Bool) (k : List ℕ) → IsBytes k → bound_of u w q k ≡ judge (key_length k ∷ []) (Ok (scan u k l)) Err
+  pub find : (k : List ℕ) → IsBytes k → find_of w q k ≡ judge (key_length k ∷ prefix_held p k ∷ []) (find_scan k l) Err
   pub compare : (i : ℕ) (k : List ℕ) → IsBytes k
-      → compare_of w q i k ≡ judge (key_length k ∷ check (ltb i (length l)) SlotNumber ∷ []) (Sign (sign_of (order (get_or (keys l) i []) k))) Compared-as-Refused
+      → compare_of w q i k ≡ judge (key_length k ∷ check (ltb i (length l)) SlotNumber ∷ []) (Ok (sign_of (order (get_or (keys l) i []) k))) Err
   -- "child -1 with the header's lower fence value"; children are of width 8
   pub child : (k : List ℕ) → w ≡ 8
-      → child_of q k ≡ judge (key_length k ∷ prefix_held p k ∷ inside_fences p k ∷ []) (child_scan (frame_of p).lower_value k l) Child-as-Refused
+      → child_of q k ≡ judge (key_length k ∷ prefix_held p k ∷ inside_fences p k ∷ []) (Ok (child_scan (frame_of p).lower_value k l)) Err
 
 -- ---- what it concludes: fs are the records in any order, q the page after, l the listing after
 pub record Demanded (w : ℕ) (p : List ℕ) (es fs : List Entry) (q : List ℕ) (l : List Entry) : Type 0 where
@@ -70,7 +64,7 @@ pub record Demanded (w : ℕ) (p : List ℕ) (es fs : List Entry) (q : List ℕ)
   pub rises : rising (keys l) ≡ true
   pub holds : Permᴰ l (es ++ listing w p)
   -- the page is fit again
-  pub fit : fit_verdict w q ≡ Verdict-as-Is 0
+  pub fit : fit_verdict w q ≡ Ok 0
   -- "all 96 header bytes come out alike for every order"
   pub header : take 96 q ≡ take 96 (page_after w p es)
   -- "every search that 01 doesn't refuse returns what a scan of that listing returns .. hints in use or not"

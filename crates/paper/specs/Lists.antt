@@ -2,8 +2,9 @@
 use Rattle.std.specs.Prelude.{ℕ, zero, suc, ◌+◌, Bool, true, false, List, [], ◌∷◌}
 use Rattle.keys.specs.Choice.{pick, both}
 use Rattle.keys.specs.Keys.{order}
-use Rattle.keys.specs.declared.order.Order.{Order}
-use Rattle.keys.specs.declared.order.Order.TheVariants.{Below, Same, Above}
+use Rattle.std.specs.declared.cmp.Ordering.{Ordering}
+use Rattle.std.specs.declared.cmp.Ordering.TheVariants.{Less, Equal, Greater}
+use Rattle.std.specs.Ordering.{is_lt}
 
 -- all tests of a list
 unfoldable pub every : List Bool → Bool
@@ -48,14 +49,10 @@ module _ {A : Type 0} where
   up_to f (x ∷ l) = pick (f x) (suc (up_to f l)) 0
 
 -- ---- keys
-unfoldable pub is_below : Order → Bool
-is_below Below = true
-is_below Same = false
-is_below Above = false
 
 -- is a smaller than b
 unfoldable pub less : List ℕ → List ℕ → Bool
-less a b = is_below (order a b)
+less a b = is_lt (order a b)
 
 -- are a and b different
 unfoldable pub differ : List ℕ → List ℕ → Bool

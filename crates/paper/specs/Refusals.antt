@@ -1,5 +1,5 @@
 -- "Calls and refusal numbers": the table, and how a call is judged by it.
-use Rattle.std.specs.Prelude.{ℕ, Bool, List, [], ◌∷◌}
+use Rattle.std.specs.Prelude.{ℕ, Bool, List, [], ◌∷◌, Result, Ok, Err}
 use Rattle.keys.specs.Choice.{pick}
 use Rattle.paper.specs.declared.refusal.Refusal.{Refusal}
 use Rattle.paper.specs.declared.refusal.Refusal.TheVariants.{PageLength, Width, KeyLength, HeaderRules, NotFit, FenceOrder, ValueRange, Prefix, OutsideFences, SlotNumber, Present, Neighbours, NoRoom, Payload, BufferLength, ShortKey, NotFound, OtherValue}
@@ -58,3 +58,8 @@ check b r = record { holds = b; refusal = r }
 unfoldable pub judge : {A : Type 0} → List Check → A → (Refusal → A) → A
 judge [] answer refused = answer
 judge (c ∷ cs) answer refused = pick c.holds (judge cs answer refused) (refused c.refusal)
+
+-- the refusal of an answer that is one
+unfoldable pub refusal_of : {A : Type 0} → Result A Refusal → Refusal
+refusal_of (Ok a) = PageLength
+refusal_of (Err r) = r

@@ -1,3 +1,7 @@
+// Refusals.
+ghost use Rattle.std.specs.Prelude.{◌≡◌};
+ghost use Rattle.paper.specs.Refusals.{refusal_of};
+
 // Why a call was refused: the eighteen rows of document 01's table, in its order.
 #[derive(Clone, Copy)]
 pub enum Refusal {
@@ -37,4 +41,15 @@ pub enum Refusal {
     NotFound,
     // 18: stored value differs from the expected one; carries the stored value
     OtherValue(u64),
+}
+
+// The refusal of an answer that is one. Any other has none, and 1 stands for it.
+#[tactic(auto, unfolding(crate::specs::Refusals::refusal_of))]
+pub fn refusal_of<T: Copy>(answer: Result<T, Refusal>) -> Refusal
+    ensures { result ≡ refusal_of answer }
+{
+    match answer {
+        Ok(_) => Refusal::PageLength,
+        Err(r) => r,
+    }
 }

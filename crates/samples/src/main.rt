@@ -5,11 +5,10 @@
 use dorgumanna::answer;
 use edit::{begin, change, insert};
 use hint::hints;
-use keys::order::Order;
 use keys::{head, order, shared};
 use node::{header, space};
 use octets::number;
-use paper::answers::{Forecast, Needed, SpaceRead};
+use std::cmp::Ordering;
 use std::io;
 use std::io::Write;
 
@@ -54,9 +53,9 @@ fn order_of<W: Write>(out: &mut W, a: &[u8], b: &[u8]) -> io::Result<()> {
     out.write_all(b" ")?;
     print_key(out, b)?;
     match order::compare(a, b) {
-        Order::Below => out.write_all(b" -1\n"),
-        Order::Same => out.write_all(b" 0\n"),
-        Order::Above => out.write_all(b" 1\n"),
+        Ordering::Less => out.write_all(b" -1\n"),
+        Ordering::Equal => out.write_all(b" 0\n"),
+        Ordering::Greater => out.write_all(b" 1\n"),
     }
 }
 
@@ -74,7 +73,7 @@ fn common_prefix_of<W: Write>(out: &mut W, a: &[u8], b: &[u8]) -> io::Result<()>
 fn need_of<W: Write>(out: &mut W, width: u8, suffix: &[u8]) -> io::Result<()> {
     write!(out, "need {width} ")?;
     print_key(out, suffix)?;
-    let Needed::Bytes(n) = space::need(width, 0, suffix) else {
+    let Ok(n) = space::need(width, 0, suffix) else {
         return out.write_all(b" refused\n");
     };
     print_number(out, n)?;
@@ -87,18 +86,24 @@ fn forecast_of<W: Write>(out: &mut W, lower: &[u8], upper: &[u8]) -> io::Result<
     print_key(out, lower)?;
     out.write_all(b" ")?;
     print_key(out, upper)?;
-    let Forecast::Are(n, bytes) = space::forecast(lower, upper) else {
+    let Ok(f) = space::forecast(lower, upper) else {
         return out.write_all(b" refused\n");
     };
-    print_number(out, n as u64)?;
-    print_number(out, bytes as u64)?;
+    print_number(out, f.prefix_len as u64)?;
+    print_number(out, f.space as u64)?;
     out.write_all(b"\n")
+}
+
+// A page of height 0 begun with two fences. Where that is refused the page is empty, and the next line shows it.
+fn begun(lower: &[u8], upper: &[u8], hints: bool) -> [u8; 16384] {
+    let mut page = [0u8; 16384];
+    let _ = begin::begin(&mut page, 0, 0, lower, 0, upper, hints);
+    page
 }
 
 // A page begun with two fences: its end and its effective space.
 fn begin_of<W: Write>(out: &mut W, lower: &[u8], upper: &[u8]) -> io::Result<()> {
-    let mut page = [0u8; 16384];
-    begin::begin(&mut page, 0, 0, lower, 0, upper, false);
+    let page = begun(lower, upper, false);
     out.write_all(b"begin ")?;
     print_key(out, lower)?;
     out.write_all(b" ")?;
@@ -109,13 +114,15 @@ fn begin_of<W: Write>(out: &mut W, lower: &[u8], upper: &[u8]) -> io::Result<()>
 
 // Keys of four bytes filed at width 8 on a page without fences until one is refused: which one is, and the number that it gets.
 fn fill_page<W: Write>(out: &mut W) -> io::Result<()> {
-    let mut page = [0u8; 16384];
-    begin::begin(&mut page, 0, 0, b"", 0, b"", false);
+    let mut page = begun(b"", b"", false);
     let mut tried = 0;
     let mut number = 0;
-    while tried < 2000 && number == 0 {
-        number = file_next(&mut page, tried);
-        tried += 1;
+    for i in 0..2000 {
+        number = file_next(&mut page, i);
+        tried = i + 1;
+        if number != 0 {
+            break;
+        }
     }
     write!(out, "fill {tried} {number}\n")
 }
@@ -124,17 +131,14 @@ fn fill_page<W: Write>(out: &mut W) -> io::Result<()> {
 fn file_next(page: &mut [u8], i: u32) -> u8 {
     let mut key = [0u8; 4];
     number::write_u32(&mut key, 0, i);
-    answer::filed(insert::insert(page, 8, &key, i as u64)).number
+    answer::tell(insert::insert(page, 8, &key, i as u64)).number
 }
 
 // As many keys filed on a page with the hints flag: whether hints are in use, and the first hint.
 fn hints_of<W: Write>(out: &mut W, count: u32) -> io::Result<()> {
-    let mut page = [0u8; 16384];
-    begin::begin(&mut page, 0, 0, b"", 0, b"", true);
-    let mut i = 0;
-    while i < count {
+    let mut page = begun(b"", b"", true);
+    for i in 0..count {
         file_next(&mut page, i);
-        i += 1;
     }
     let h = header::read_header(&page);
     out.write_all(b"hints")?;
@@ -146,22 +150,21 @@ fn hints_of<W: Write>(out: &mut W, count: u32) -> io::Result<()> {
 
 // "parcel" at width 8 changed to another key: end and effective space before and after.
 fn change_of<W: Write>(out: &mut W, key: &[u8]) -> io::Result<()> {
-    let mut page = [0u8; 16384];
-    begin::begin(&mut page, 0, 0, b"", 0, b"", false);
-    insert::insert(&mut page, 8, b"parcel", 2);
+    let mut page = begun(b"", b"", false);
+    let _ = insert::insert(&mut page, 8, b"parcel", 2);
     out.write_all(b"change ")?;
     print_key(out, b"parcel")?;
     print_end(out, &page)?;
     out.write_all(b" ")?;
     print_key(out, key)?;
-    change::change_key(&mut page, 8, 0, key);
+    let _ = change::change_key(&mut page, 8, 0, key);
     print_end(out, &page)?;
     out.write_all(b"\n")
 }
 
 // Blank and end, blank and effective space, of a page.
 fn print_end<W: Write>(out: &mut W, page: &[u8]) -> io::Result<()> {
-    let SpaceRead::Are(s) = space::space_numbers(page) else {
+    let Ok(s) = space::space_numbers(page) else {
         return out.write_all(b" refused");
     };
     print_number(out, s.end)?;

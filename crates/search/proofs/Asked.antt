@@ -12,8 +12,9 @@ use Rattle.paper.specs.declared.page.Slot.{Slot}
 use Rattle.paper.specs.declared.page.Header.{Header}
 use Rattle.paper.proofs.Same.{body_bytes_long}
 use Rattle.paper.proofs.Fit.{Lie, Rules}
-use Rattle.node.specs.Admit.{admits_of}
-use Rattle.node.proofs.Admits.{admits-is, slots-within, prefix_lies}
+use Rattle.std.specs.Prelude.{Ok}
+use Rattle.node.specs.Admit.{admit_of}
+use Rattle.node.proofs.Admits.{slots-within, prefix_lies}
 use Rattle.search.specs.Fence.{LongLies}
 
 module _ (p : List ℕ) (h : Header) (e : h ≡ header_of p) (R : Rules (frame_of p) (numbers_of p)) where
@@ -61,5 +62,6 @@ module _ (p : List ℕ) (n : ℕ) where
   prefix-read e = e
 
 -- ---- what a page that may be read has
-pub asked : (w : ℕ) (p : List ℕ) (n : ℕ) → admits_of w p n ≡ true → (16384 ≤ length p) × (8 * (header_of p).count ≤ 16256) × ((header_of p).prefix_len ≤ 16256)
-asked w p n e = let f = admits-is w p n e in let s = slots-within w p n (header_of p) f in (s.0, s.1, prefix_lies w p n (header_of p) f)
+pub asked : (w : ℕ) (p : List ℕ) (n : ℕ) → admit_of w p n ≡ Ok tt → (16384 ≤ length p) × (8 * (header_of p).count ≤ 16256) × ((header_of p).prefix_len ≤ 16256)
+unfolding header_of numbers_of
+asked w p n e = let s = slots-within w p n e (le 2 p 2) refl in (s.0, s.1, prefix_lies w p n e)

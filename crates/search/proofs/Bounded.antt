@@ -8,20 +8,15 @@ use native.Mathlib.Omega.{arith}
 use lib.ListN.{length}
 use Rattle.keys.specs.Choice.{pick}
 use Rattle.keys.specs.Keys.{head_of}
-use Rattle.keys.specs.declared.order.Order.{Order}
-use Rattle.keys.specs.declared.order.Order.TheVariants.{Below, Same, Above}
 use Rattle.paper.specs.Page.{frame_of, numbers_of, header_of, hints_of}
 use Rattle.paper.specs.Hints.{in_use, window_low, window_high}
 use Rattle.paper.specs.Searches.{probe_suffix, class_of, by_class, slot_order, visit, turn, halving, bound_in, bound_by, bound}
 use Rattle.paper.specs.declared.page.Header.{Header}
-use Rattle.paper.specs.declared.answers.Bound.{Bound}
-use Rattle.paper.specs.declared.answers.Bound.TheVariants.{At as Bound-as-At, Refused as Bound-as-Refused}
 use Rattle.paper.proofs.Lists.{length-tab}
 use Rattle.paper.proofs.Halving.{halving-fuel, halving-same}
 use Rattle.paper.specs.Calls.{bound_of}
 use Rattle.paper.specs.declared.refusal.Refusal.{Refusal}
 use Rattle.node.specs.Admit.{admit_of}
-use Rattle.node.specs.declared.admit.Admitted.TheVariants.{Is as Admitted-as-Is, Refused as Admitted-as-Refused}
 use Rattle.node.proofs.Admits.{admitted, admitted-judge, refused-admit}
 use Rattle.hint.proofs.Windows.{window-within}
 use Rattle.search.specs.Probe.{class_by, class_number}
@@ -29,6 +24,9 @@ use Rattle.search.specs.Slot.{met_at, halved}
 use Rattle.search.specs.Bounds.{window_of, searched, bound_with}
 use Rattle.search.specs.declared.seek.Window.{Window}
 use Rattle.search.proofs.Classes.{class_is, class_before, class_within, class_after, class_number-lt}
+use Rattle.std.specs.Prelude.{Result, Ok, Err}
+use Rattle.std.specs.declared.cmp.Ordering.{Ordering}
+use Rattle.std.specs.declared.cmp.Ordering.TheVariants.{Less, Equal, Greater}
 
 -- ---- the window
 module _ (p : List ℕ) (flag count head : ℕ) where
@@ -76,14 +74,14 @@ one_left (suc (suc (suc c))) l f g = absurd (omega arith)
 
 -- ---- by class; c is the class as a number
 module _ (u : Bool) (w : ℕ) (p : List ℕ) (h : Header) (k : List ℕ) (c : ℕ) (e : c ≡ class_number (class_by p h.prefix_len k)) where
-  abbrev found : Bound
+  abbrev found : Result ℕ Refusal
   found = searched u w p h (probe_suffix (frame_of p) k)
 
-  pub bound-before : c ≡ 0 → bound_with u w p h k ≡ Bound-as-At 0
+  pub bound-before : c ≡ 0 → bound_with u w p h k ≡ Ok 0
   unfolding bound_with bound_by
   bound-before f = rw (class_before (class_by p h.prefix_len k) (sym e ∙ f))
 
-  pub bound-after : c ≡ 2 → bound_with u w p h k ≡ Bound-as-At h.count
+  pub bound-after : c ≡ 2 → bound_with u w p h k ≡ Ok h.count
   unfolding bound_with bound_by
   bound-after f = rw (class_after (class_by p h.prefix_len k) (sym e ∙ f))
 
@@ -102,17 +100,17 @@ module _ (u : Bool) (w : ℕ) (p k : List ℕ) where
   abbrev n : ℕ
   n = (numbers_of p).count
 
-  pub met : class_of (frame_of p) k ≡ Same → (i : ℕ) → met_at w p (numbers_of p).end s i ≡ slot_order w p k i
+  pub met : class_of (frame_of p) k ≡ Equal → (i : ℕ) → met_at w p (numbers_of p).end s i ≡ slot_order w p k i
   unfolding met_at slot_order visit by_class
   met e i = rw e
 
-  halved_is : class_of (frame_of p) k ≡ Same → (lo hi : ℕ) → hi ≤ n → halved u w p (numbers_of p).end s lo hi ≡ halving (turn u) Bound-as-At n (slot_order w p k) lo hi
+  halved_is : class_of (frame_of p) k ≡ Equal → (lo hi : ℕ) → hi ≤ n → halved u w p (numbers_of p).end s lo hi ≡ halving (turn u) Ok n (slot_order w p k) lo hi
   unfolding halved
   halved_is e lo hi h =
-      halving-fuel (turn u) Bound-as-At (hi - lo) n (met_at w p (numbers_of p).end s) lo hi (omega arith) (omega arith)
-      ∙ halving-same (turn u) Bound-as-At n (met_at w p (numbers_of p).end s) (slot_order w p k) lo hi (λ i l. met e i)
+      halving-fuel (turn u) Ok (hi - lo) n (met_at w p (numbers_of p).end s) lo hi (omega arith) (omega arith)
+      ∙ halving-same (turn u) Ok n (met_at w p (numbers_of p).end s) (slot_order w p k) lo hi (λ i l. met e i)
 
-  in_is : class_of (frame_of p) k ≡ Same → searched u w p (header_of p) s ≡ bound_in u w p k
+  in_is : class_of (frame_of p) k ≡ Equal → searched u w p (header_of p) s ≡ bound_in u w p k
   unfolding searched bound_in header_of window_of
   in_is e = go (in_use (frame_of p).flag n) refl
     where
@@ -124,11 +122,11 @@ module _ (u : Bool) (w : ℕ) (p k : List ℕ) where
 
       go : (t : Bool) → in_use (frame_of p).flag n ≡ t
           → halved u w p (numbers_of p).end s (pick t used all).low (pick t used all).high
-          ≡ pick t (halving (turn u) Bound-as-At n (slot_order w p k) (window_low (hints_of p) (head_of s) n) (window_high (hints_of p) (head_of s) n)) (halving (turn u) Bound-as-At n (slot_order w p k) 0 n)
+          ≡ pick t (halving (turn u) Ok n (slot_order w p k) (window_low (hints_of p) (head_of s) n) (window_high (hints_of p) (head_of s) n)) (halving (turn u) Ok n (slot_order w p k) 0 n)
       go true f = halved_is e (window_low (hints_of p) (head_of s) n) (window_high (hints_of p) (head_of s) n) (window-within (hints_of p) (head_of s) n (length-hints p 0 0 0)).1
       go false f = halved_is e 0 n (omega arith)
 
-  pub searched-is : class_of (frame_of p) k ≡ Same → searched u w p (header_of p) s ≡ bound u w p k
+  pub searched-is : class_of (frame_of p) k ≡ Equal → searched u w p (header_of p) s ≡ bound u w p k
   unfolding bound bound_by
   searched-is e = in_is e ∙ rw e
 
@@ -136,16 +134,16 @@ module _ (u : Bool) (w : ℕ) (p k : List ℕ) where
   unfolding bound_with bound header_of bound_by
   bound-is = rw (class_is p k) (go (class_of (frame_of p) k) refl)
     where
-      go : (o : Order) → class_of (frame_of p) k ≡ o → bound_by o n (searched u w p (header_of p) s) ≡ bound_by o n (bound_in u w p k)
-      go Below e = refl
-      go Same e = in_is e
-      go Above e = refl
+      go : (o : Ordering) → class_of (frame_of p) k ≡ o → bound_by o n (searched u w p (header_of p) s) ≡ bound_by o n (bound_in u w p k)
+      go Less e = refl
+      go Equal e = in_is e
+      go Greater e = refl
 
   -- ---- the call
-  pub bound-refused : (q : Refusal) → admit_of w p (length k) ≡ Admitted-as-Refused q → bound_of u w p k ≡ Bound-as-Refused q
+  pub bound-refused : (q : Refusal) → admit_of w p (length k) ≡ Err q → bound_of u w p k ≡ Err q
   unfolding bound_of
-  bound-refused q e = refused-admit w p (length k) q e (bound u w p k) Bound-as-Refused
+  bound-refused q e = refused-admit w p (length k) q e (bound u w p k) Err
 
-  pub bound-admitted : (h : Header) → admit_of w p (length k) ≡ Admitted-as-Is h → bound_of u w p k ≡ bound_with u w p h k
+  pub bound-admitted : admit_of w p (length k) ≡ Ok tt → bound_of u w p k ≡ bound_with u w p (header_of p) k
   unfolding bound_of
-  bound-admitted h e = admitted-judge w p (length k) h e (bound u w p k) Bound-as-Refused ∙ sym (rw (admitted w p (length k) h e).header bound-is)
+  bound-admitted e = admitted-judge w p (length k) e (bound u w p k) Err ∙ sym bound-is

@@ -9,7 +9,7 @@ use lib.ListN.{take, take-append-drop}
 use Rattle.octets.specs.Bytes.{part, big_bytes}
 use Rattle.keys.specs.Keys.{order}
 use Rattle.keys.proofs.Orders.{order-append, same_list_eq}
-use Rattle.paper.specs.Lists.{is_below, less}
+use Rattle.paper.specs.Lists.{less}
 use Rattle.paper.specs.Page.{slot_at, suffix_of, frame_of, header_of}
 use Rattle.paper.specs.Verdicts.{upper_empty, inside}
 use Rattle.paper.specs.Searches.{probe_suffix}
@@ -18,11 +18,12 @@ use Rattle.paper.specs.declared.page.Slot.{Slot}
 use Rattle.paper.specs.declared.page.Header.{Header}
 use Rattle.node.proofs.Spelling.{suffix-short}
 use Rattle.search.specs.Fence.{inside_by}
+use Rattle.std.specs.Ordering.{is_lt}
 
 -- ---- a fence
 -- no key is below the empty one
 less_empty : (x : List ℕ) → false ≡ less x []
-unfolding less order is_below
+unfolding less order
 less_empty [] = refl
 less_empty (a ∷ x) = refl
 
@@ -73,7 +74,7 @@ module _ (p k : List ℕ) (held : has_prefix (frame_of p) k ≡ true) where
   less-suffix : (x : List ℕ) → less (probe_suffix (frame_of p) k) x ≡ less k ((frame_of p).prefix ++ x)
   unfolding less
   less-suffix x =
-      ap is_below
+      ap is_lt
       (sym (order-append (frame_of p).prefix (probe_suffix (frame_of p) k) x) ∙ ap (λ (a : List ℕ). order a ((frame_of p).prefix ++ x)) (sym parted))
 
   of-page : inside_by p (header_of p) (probe_suffix (frame_of p) k) ≡ inside (frame_of p) k

@@ -1,5 +1,5 @@
 -- The bounds by a header that was read.
-use Rattle.std.specs.Prelude.{ℕ, Bool, List}
+use Rattle.std.specs.Prelude.{ℕ, Bool, List, Result}
 use Rattle.keys.specs.Choice.{pick}
 use Rattle.keys.specs.Keys.{head_of}
 use Rattle.paper.specs.Page.{frame_of, hints_of}
@@ -7,9 +7,6 @@ use Rattle.paper.specs.Hints.{in_use, window_low, window_high}
 use Rattle.paper.specs.Searches.{probe_suffix, bound_by}
 use Rattle.paper.specs.declared.page.Header.{Header}
 use Rattle.paper.specs.declared.refusal.Refusal.{Refusal}
-use Rattle.paper.specs.declared.refusal.Refusal.TheVariants.{Payload}
-use Rattle.paper.specs.declared.answers.Bound.{Bound}
-use Rattle.paper.specs.declared.answers.Bound.TheVariants.{At as Bound-as-At, Refused as Bound-as-Refused}
 use Rattle.search.specs.Probe.{class_by}
 use Rattle.search.specs.Slot.{halved}
 use Rattle.search.specs.declared.seek.Window.{Window}
@@ -20,14 +17,9 @@ window_of p flag count head =
     pick (in_use flag count) (record { low = window_low (hints_of p) head count; high = window_high (hints_of p) head count }) (record { low = 0; high = count })
 
 -- the bound of the suffix s
-unfoldable pub searched : Bool → ℕ → List ℕ → Header → List ℕ → Bound
+unfoldable pub searched : Bool → ℕ → List ℕ → Header → List ℕ → Result ℕ Refusal
 searched u w p h s = let v = window_of p h.flag h.count (head_of s) in halved u w p h.end s v.low v.high
 
 -- the bound of the key k
-unfoldable pub bound_with : Bool → ℕ → List ℕ → Header → List ℕ → Bound
+unfoldable pub bound_with : Bool → ℕ → List ℕ → Header → List ℕ → Result ℕ Refusal
 bound_with u w p h k = bound_by (class_by p h.prefix_len k) h.count (searched u w p h (probe_suffix (frame_of p) k))
-
--- why a bound was not found
-unfoldable pub why_no_bound : Bound → Refusal
-why_no_bound (Bound-as-At i) = Payload
-why_no_bound (Bound-as-Refused r) = r

@@ -11,7 +11,7 @@ use paper::answers::Found;
 use paper::refusal::Refusal;
 
 // Find of a probe's suffix on a page: 14.
-pub fn find_at(p: &[u8], width: u8, suffix: &[u8]) -> Found
+pub fn find_at(p: &[u8], width: u8, suffix: &[u8]) -> Result<Found, Refusal>
     requires { (16384 ≤ length p.now) × (8 * (header_of p.now).count ≤ 16256) }
     ensures { result ≡ find_in width p.now (header_of p.now) suffix.now }
 {
@@ -19,22 +19,20 @@ pub fn find_at(p: &[u8], width: u8, suffix: &[u8]) -> Found
 }
 
 // Find on a page that may be read: 8, 14.
-fn find_with(p: &[u8], width: u8, key: &[u8]) -> Found
+fn find_with(p: &[u8], width: u8, key: &[u8]) -> Result<Found, Refusal>
     requires { (16384 ≤ length p.now) × (8 * (header_of p.now).count ≤ 16256) × ((header_of p.now).prefix_len ≤ 16256) }
     ensures { result ≡ find_with width p.now (header_of p.now) key.now }
 {
     if !probe::within(p, number::read_u16(p, 46), key) {
-        return Found::Refused(Refusal::Prefix);
+        return Err(Refusal::Prefix);
     }
     find_at(p, width, probe::suffix(p, key))
 }
 
 // The equal key's slot, or the number of smaller keys: the lower bound, then that slot tested. Refuses 1, 2, 3, 4, 8, 14.
-pub fn find(p: &[u8], width: u8, key: &[u8]) -> Found
+pub fn find(p: &[u8], width: u8, key: &[u8]) -> Result<Found, Refusal>
     ensures { result ≡ find_of width p.now key.now }
 {
-    if !admit::admits(p, width, key.len()) {
-        return Found::Refused(admit::why_refused(p, width, key.len()));
-    }
+    admit::admit(p, width, key.len())?;
     find_with(p, width, key)
 }

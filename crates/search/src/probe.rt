@@ -4,10 +4,10 @@ ghost use Rattle.paper.specs.Page.{frame_of};
 ghost use Rattle.paper.specs.Searches.{probe_suffix};
 ghost use Rattle.search.specs.Probe.{class_by, class_number};
 
-use keys::order::Order;
 use keys::shared;
 use node::key;
 use octets::number;
+use std::cmp::Ordering;
 
 // Where the probe stands to the page's prefix: 0 before it, 1 within it, 2 after it.
 pub fn class(p: &[u8], prefix_len: u16, probe: &[u8]) -> u8
@@ -34,13 +34,13 @@ pub fn within(p: &[u8], prefix_len: u16, probe: &[u8]) -> bool
 }
 
 // The class as a number.
-fn number_of(o: Order) -> u8
+fn number_of(o: Ordering) -> u8
     ensures { result ≡ class_number o }
 {
     match o {
-        Order::Below => 0,
-        Order::Same => 1,
-        Order::Above => 2,
+        Ordering::Less => 0,
+        Ordering::Equal => 1,
+        Ordering::Greater => 2,
     }
 }
 

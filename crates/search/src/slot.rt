@@ -6,39 +6,32 @@ ghost use Rattle.paper.specs.Page.{body_bytes};
 ghost use Rattle.paper.specs.Searches.{slot_meets};
 ghost use Rattle.search.specs.Slot.{rank_of, met_at, met_alone};
 
-use keys::order::Order;
 use keys::{head, order, shared};
-use node::slots::SlotRead;
 use node::{header, slots};
-use paper::answers::Met;
 use paper::page::Slot;
+use paper::refusal;
 use paper::refusal::Refusal;
+use std::cmp::Ordering;
 
-// What heads and lengths say of a slot and a probe's suffix: the order, or that the suffix bytes decide.
-#[derive(Clone, Copy)]
-pub enum Ranked {
-    Told(Order),
-    Open,
-}
-
+// What heads and lengths say of a slot and a probe's suffix: the order, or nothing where the suffix bytes decide.
 // By heads; if equal and either suffix is within 4 bytes, by lengths. The probe's suffix has that head and length.
-fn rank(s: Slot, head: u32, len: usize) -> Ranked
+fn rank(s: Slot, head: u32, len: usize) -> Option<Ordering>
     ensures { result ≡ rank_of s head len }
 {
     if s.head < head {
-        return Ranked::Told(Order::Below);
+        return Some(Ordering::Less);
     }
     if head < s.head {
-        return Ranked::Told(Order::Above);
+        return Some(Ordering::Greater);
     }
     let n = s.len as usize;
     if n <= 4 {
-        return Ranked::Told(order::by_number(n as u64, len as u64));
+        return Some(order::by_number(n as u64, len as u64));
     }
     if len <= 4 {
-        return Ranked::Told(order::by_number(n as u64, len as u64));
+        return Some(order::by_number(n as u64, len as u64));
     }
-    Ranked::Open
+    None
 }
 
 // The suffix of a slot whose suffix is long.
@@ -51,47 +44,61 @@ pub(crate) fn long_suffix(p: &[u8], s: Slot) -> &[u8]
 }
 
 // How a slot meets a probe's suffix, for halving alone: it has the only call of `keys::order::compare`.
-fn meets(p: &[u8], s: Slot, head: u32, suffix: &[u8]) -> Order
+fn meets(p: &[u8], s: Slot, head: u32, suffix: &[u8]) -> Ordering
     requires { (head ≡ head_of suffix.now) × (96 + s.offset + body_bytes 4 s.len ≤ length p.now) }
     ensures { result ≡ slot_meets p.now s suffix.now }
 {
-    let Ranked::Told(o) = rank(s, head, suffix.len()) else {
+    let Some(o) = rank(s, head, suffix.len()) else {
         return order::compare(long_suffix(p, s), suffix);
     };
     o
 }
 
 // Slot `i` against a probe's suffix, for halving alone; 14 where its payload lies outside end..16,256.
-pub(crate) fn meet_at(p: &[u8], end: u16, width: u8, i: usize, head: u32, suffix: &[u8]) -> Met
+pub(crate) fn meet_at(
+    p: &[u8],
+    end: u16,
+    width: u8,
+    i: usize,
+    head: u32,
+    suffix: &[u8],
+) -> Result<Ordering, Refusal>
     requires { (16384 ≤ length p.now) × (8 * i ≤ 16248) × (head ≡ head_of suffix.now) }
     ensures { result ≡ met_at width p.now end suffix.now i }
 {
     let s = header::read_slot(p, 96 + 8 * i);
     if !slots::payload_within(s, end, width) {
-        return Met::Refused(Refusal::Payload);
+        return Err(Refusal::Payload);
     }
-    Met::Is(meets(p, s, head, suffix))
+    Ok(meets(p, s, head, suffix))
 }
 
 // How a slot meets a probe's suffix, for calls that look at one slot: its bytes go by what they share.
-fn meets_alone(p: &[u8], s: Slot, suffix: &[u8]) -> Order
+fn meets_alone(p: &[u8], s: Slot, suffix: &[u8]) -> Ordering
     requires { 96 + s.offset + body_bytes 4 s.len ≤ length p.now }
     ensures { result ≡ slot_meets p.now s suffix.now }
 {
-    let Ranked::Told(o) = rank(s, head::head_int(suffix), suffix.len()) else {
+    let Some(o) = rank(s, head::head_int(suffix), suffix.len()) else {
         return shared::order_by_shared(long_suffix(p, s), suffix);
     };
     o
 }
 
 // Slot `i` of `count` against a probe's suffix, for calls that look at one slot; 10 and 14 as for every slot visited.
-pub(crate) fn meet_alone(p: &[u8], count: u16, end: u16, width: u8, i: usize, suffix: &[u8]) -> Met
+pub(crate) fn meet_alone(
+    p: &[u8],
+    count: u16,
+    end: u16,
+    width: u8,
+    i: usize,
+    suffix: &[u8],
+) -> Result<Ordering, Refusal>
     requires { (16384 ≤ length p.now) × (8 * count ≤ 16256) }
     ensures { result ≡ met_alone width p.now count end suffix.now i }
 {
-    let v = slots::visit_slot(p, count, end, width, i);
-    let SlotRead::Is(s) = v else {
-        return Met::Refused(slots::why_no_slot(v));
+    let read = slots::visit_slot(p, count, end, width, i);
+    let Ok(s) = read else {
+        return Err(refusal::refusal_of(read));
     };
-    Met::Is(meets_alone(p, s, suffix))
+    Ok(meets_alone(p, s, suffix))
 }

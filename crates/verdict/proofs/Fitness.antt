@@ -19,15 +19,15 @@ use Rattle.paper.specs.declared.refusal.Refusal.{Refusal}
 use Rattle.paper.specs.declared.refusal.Refusal.TheVariants.{Width, NotFit}
 use Rattle.paper.proofs.Lists.{both_parts}
 use Rattle.paper.proofs.Fit.{Fit, fit}
-use Rattle.paper.proofs.Holding.{Hold, judge_hold, hold_judge, refused-judge}
+use Rattle.paper.proofs.Holding.{Hold, judge_hold, answer_holds, refused-judge}
 use Rattle.node.specs.Header.{rules_of}
-use Rattle.node.specs.declared.admit.Admitted.TheVariants.{Is as Admitted-as-Is, Refused as Admitted-as-Refused}
 use Rattle.node.proofs.Rules.{rules_of_lem}
 use Rattle.verdict.specs.Pieces.{held_with, disjoint_with}
 use Rattle.verdict.specs.Tally.{tally_of, fences_rise_with}
 use Rattle.verdict.specs.Fits.{fit_with, empty_leaf_with, order_with, layout_with, fit_checks, fit_header_of, fit_admit_of}
 use Rattle.verdict.proofs.Pieced.{u2_is, u3_is}
 use Rattle.verdict.proofs.Judged.{u4-is, u5-is, u6-is, u7-is, u8_is, u9-is, rise-is}
+use Rattle.std.specs.Prelude.{Ok, Err}
 
 module _ (w : ℕ) (p : List ℕ) where
   u1-is : header_rules (view_of w p).frame (view_of w p).numbers ≡ rules_of (header_of p)
@@ -60,11 +60,11 @@ module _ (w : ℕ) (p : List ℕ) where
     pub found : u ≡ fit_of w p
     found = v ∙ sym fit_is
 
-    pub unfit-header : (u ≡ 0 → ⊥) → fit_header_of w p ≡ Admitted-as-Refused (NotFit u)
+    pub unfit-header : (u ≡ 0 → ⊥) → fit_header_of w p ≡ Err (NotFit u)
     unfolding fit_header_of judge
     unfit-header k = rw (← found, ne_eqb u 0 k)
 
-    pub fit-header : (h : Header) → h ≡ header_of p → u ≡ 0 → fit_header_of w p ≡ Admitted-as-Is h
+    pub fit-header : (h : Header) → h ≡ header_of p → u ≡ 0 → fit_header_of w p ≡ Ok h
     unfolding fit_header_of judge
     fit-header h e k = rw (← found, eq-eqb u 0 k, ← e)
 
@@ -82,18 +82,12 @@ pub record Fitted (w : ℕ) (p : List ℕ) (n : ℕ) (h : Header) : Type 0 where
   pub key_length : n ≤ 65535
   pub verdict : fit_of w p ≡ 0
 
-is_not : (h : Header) (q : Refusal) → Admitted-as-Is h ≡ Admitted-as-Refused q → ⊥
-is_not h q e = let z : ◌≡◌ {A = ℕ} 0 1 = cc in omega arith
-
-refused_is : (x q : Refusal) → Admitted-as-Refused x ≡ Admitted-as-Refused q → x ≡ q
-refused_is x q e = cc
-
 module _ (w : ℕ) (p : List ℕ) (n : ℕ) where
-  holds : (h : Header) → fit_admit_of w p n ≡ Admitted-as-Is h → Hold (fit_checks w p n)
+  holds : (h : Header) → fit_admit_of w p n ≡ Ok h → Hold (fit_checks w p n)
   unfolding fit_admit_of
-  holds h e = hold_judge (fit_checks w p n) (Admitted-as-Is (header_of p)) (Admitted-as-Is h) Admitted-as-Refused (λ q k. is_not h q (sym k)) e
+  holds h e = answer_holds (fit_checks w p n) (header_of p) h e
 
-  pub fitted : (h : Header) → fit_admit_of w p n ≡ Admitted-as-Is h → Fitted w p n h
+  pub fitted : (h : Header) → fit_admit_of w p n ≡ Ok h → Fitted w p n h
   unfolding all
   fitted h e =
       let H = holds h e in
@@ -109,19 +103,19 @@ module _ (w : ℕ) (p : List ℕ) (n : ℕ) where
         verdict = eqb-true (fit_of w p) 0 d.0;
       }
     where
-      same : (h : Header) → fit_admit_of w p n ≡ Admitted-as-Is h → h ≡ header_of p
-      same h e = let f : fit_admit_of w p n ≡ Admitted-as-Is (header_of p) = unfold fit_admit_of in judge_hold (fit_checks w p n) (Admitted-as-Is (header_of p)) Admitted-as-Refused (holds h e) in cc
+      same : (h : Header) → fit_admit_of w p n ≡ Ok h → h ≡ header_of p
+      same h e = let f : fit_admit_of w p n ≡ Ok (header_of p) = unfold fit_admit_of in judge_hold (fit_checks w p n) (Ok (header_of p)) Err (holds h e) in cc
 
   -- the rules as facts
-  pub fitted-rules : (h : Header) → fit_admit_of w p n ≡ Admitted-as-Is h → Fit w (view_of w p)
+  pub fitted-rules : (h : Header) → fit_admit_of w p n ≡ Ok h → Fit w (view_of w p)
   unfolding fit_of
   fitted-rules h e = fit w (view_of w p) (fitted h e).verdict
 
   -- a call with these tests goes on
-  pub fitted-judge : (h : Header) → fit_admit_of w p n ≡ Admitted-as-Is h → {A : Type 0} (a : A) (r : Refusal → A) → judge (fit_checks w p n) a r ≡ a
+  pub fitted-judge : (h : Header) → fit_admit_of w p n ≡ Ok h → {A : Type 0} (a : A) (r : Refusal → A) → judge (fit_checks w p n) a r ≡ a
   fitted-judge h e a r = judge_hold (fit_checks w p n) a r (holds h e)
 
   -- or is refused alike
-  pub unfit-judge : (q : Refusal) → fit_admit_of w p n ≡ Admitted-as-Refused q → {A : Type 0} (a : A) (r : Refusal → A) → judge (fit_checks w p n) a r ≡ r q
+  pub unfit-judge : (q : Refusal) → fit_admit_of w p n ≡ Err q → {A : Type 0} (a : A) (r : Refusal → A) → judge (fit_checks w p n) a r ≡ r q
   unfolding fit_admit_of
-  unfit-judge q e a r = refused-judge (fit_checks w p n) (Admitted-as-Is (header_of p)) Admitted-as-Refused q (λ x k. refused_is x q k) (is_not (header_of p) q) e a r
+  unfit-judge q e a r = refused-judge (fit_checks w p n) (header_of p) q e a r

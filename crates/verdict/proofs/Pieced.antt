@@ -22,10 +22,10 @@ use Rattle.paper.proofs.Same.{body_bytes_short}
 use Rattle.paper.proofs.Fit.{Lie, within_fact}
 use Rattle.node.specs.Header.{rules_of}
 use Rattle.node.specs.Admit.{slot_checks, slot_read_of}
-use Rattle.node.specs.declared.slots.SlotRead.TheVariants.{Is as Slot-as-Is, Refused as Slot-as-Refused}
 use Rattle.node.proofs.Rules.{rules_in}
 use Rattle.node.proofs.Admits.{slot-judge, slot-refused}
 use Rattle.verdict.specs.Pieces.{held_with, piece_at, disjoint_with}
+use Rattle.std.specs.Prelude.{Ok, Err}
 
 -- ---- a table and its elements
 module _ {A : Type 0} where
@@ -75,7 +75,7 @@ module _ (w : ℕ) (p : List ℕ) (h : Header) where
       same false = refl
 
   -- a slot that may be visited is one more that holds
-  pub held_more : (n : ℕ) (s : Slot) → n < h.count → ((i : ℕ) → i < n → Holds i) → slot_read_of w p h.count h.end n ≡ Slot-as-Is s → (i : ℕ) → i < n + 1 → Holds i
+  pub held_more : (n : ℕ) (s : Slot) → n < h.count → ((i : ℕ) → i < n → Holds i) → slot_read_of w p h.count h.end n ≡ Ok s → (i : ℕ) → i < n + 1 → Holds i
   held_more n s l f e i k = go (dec_lt i n)
     where
       go : Dec (i < n) → Holds i
@@ -85,7 +85,7 @@ module _ (w : ℕ) (p : List ℕ) (h : Header) where
           rw q at (sym (visit-test n l) ∙ slot-judge w p h.count h.end n s e true (λ r. false))
 
   -- and one that may not breaks the rule
-  pub held-not : (n : ℕ) (q : Refusal) → n < h.count → slot_read_of w p h.count h.end n ≡ Slot-as-Refused q → held_with w p h ≡ false
+  pub held-not : (n : ℕ) (q : Refusal) → n < h.count → slot_read_of w p h.count h.end n ≡ Err q → held_with w p h ≡ false
   held-not n q l e = go (held_with w p h) refl
     where
       go : (b : Bool) → held_with w p h ≡ b → b ≡ false

@@ -16,11 +16,10 @@ use Rattle.octets.proofs.Put.{take-bytes}
 use Rattle.octets.proofs.Part.{length-part-le}
 use Rattle.octets.proofs.Big.{big_bytes-bytes, big_bytes-be}
 use Rattle.keys.specs.Keys.{by_number, common, head_of}
-use Rattle.keys.specs.declared.order.Order.TheVariants.{Same}
 use Rattle.keys.proofs.Numbers.{tri, by_number-lt, by_number_eq, by_number_gt}
 use Rattle.keys.proofs.Heads.{head-differ, head-lengths}
 use Rattle.keys.proofs.Words.{word_out}
-use Rattle.paper.specs.Lists.{is_below, less}
+use Rattle.paper.specs.Lists.{less}
 use Rattle.paper.specs.Page.{slot_at, suffix_of}
 use Rattle.paper.specs.declared.page.Slot.{Slot}
 use Rattle.paper.proofs.Sorted.{never, order-less}
@@ -28,6 +27,8 @@ use Rattle.paper.proofs.CopyingCall.{suffix-bytes}
 use Rattle.node.proofs.Spelling.{suffix-short, suffix-long, length_four}
 use Rattle.verdict.specs.Honest.{Honest}
 use Rattle.verdict.specs.Tally.{honest_of}
+use Rattle.std.specs.declared.cmp.Ordering.TheVariants.{Equal}
+use Rattle.std.specs.Ordering.{is_lt}
 
 -- ---- a head with fewer bytes
 module _ (x : ℕ) (h : x < 256 ^ 4) where
@@ -90,11 +91,10 @@ module _ (p : List ℕ) (s : Slot) (l : s.head < 256 ^ 4) where
   honest-is x r e = (e, rw e (record { faithful = ap head_of (sym honest-suffix); room = r }), rw e honest-suffix)
 
 -- ---- which of two suffixes is below
-below_number : (x y : ℕ) → is_below (by_number x y Same) ≡ ltb x y
-unfolding is_below
+below_number : (x y : ℕ) → is_lt (by_number x y Equal) ≡ ltb x y
 below_number x y =
-    ⊎_elim (λ h. rw (by_number-lt x y Same h, lt-ltb x y h))
-    (⊎_elim (λ h. rw (by_number_eq x y Same h, le-ltb x y (omega arith))) (λ h. rw (by_number_gt x y Same h, le-ltb x y (omega arith))))
+    ⊎_elim (λ h. rw (by_number-lt x y Equal h, lt-ltb x y h))
+    (⊎_elim (λ h. rw (by_number_eq x y Equal h, le-ltb x y (omega arith))) (λ h. rw (by_number_gt x y Equal h, le-ltb x y (omega arith))))
     (tri x y)
 
 length-suffix : (p : List ℕ) (s : Slot) → (4 < s.len → 96 + s.offset + s.len ≤ length p) → length (suffix_of p s) ≡ s.len
@@ -141,7 +141,7 @@ pub word-less : (a b : List ℕ) → IsBytes a → IsBytes b → (i x y : ℕ) �
     → ltb x y ≡ true → less a b ≡ true
 word-less a b ha hb i x y p q c h k l =
     let z = ltb-true x y l in
-    order-less a b (sym (word_out a b ha hb 8 i x y p q (λ e. omega arith) c h k) ∙ by_number-lt x y Same z)
+    order-less a b (sym (word_out a b ha hb 8 i x y p q (λ e. omega arith) c h k) ∙ by_number-lt x y Equal z)
 
 -- ---- the slot before
 pub alike_long : (x n : ℕ) → (not (eqb x n) || ltb n 16) ≡ false → (x ≡ n) × (16 ≤ n)

@@ -1,5 +1,5 @@
 -- Both verdicts by a header that was read, and a page that is fit.
-use Rattle.std.specs.Prelude.{ℕ, Bool, not, List, [], ◌∷◌, leb, eqb}
+use Rattle.std.specs.Prelude.{ℕ, Bool, not, List, [], ◌∷◌, leb, eqb, Result, Ok, Err}
 use Rattle.keys.specs.Choice.{both}
 use Rattle.paper.specs.Lists.{every}
 use Rattle.paper.specs.Page.{header_of}
@@ -9,11 +9,10 @@ use Rattle.paper.specs.Calls.{page_length, width_known, is_fit}
 use Rattle.paper.specs.declared.page.Header.{Header}
 use Rattle.paper.specs.declared.refusal.Refusal.TheVariants.{KeyLength}
 use Rattle.node.specs.Header.{rules_of}
-use Rattle.node.specs.declared.admit.Admitted.{Admitted}
-use Rattle.node.specs.declared.admit.Admitted.TheVariants.{Is as Admitted-as-Is, Refused as Admitted-as-Refused}
 use Rattle.verdict.specs.Pieces.{held_with, disjoint_with}
 use Rattle.verdict.specs.Tally.{tally_of, fences_rise_with, fences_faithful_with, fences_fit_with, effective_with, hints_fresh_with}
 use Rattle.verdict.specs.declared.tally.Tally.{Tally}
+use Rattle.paper.specs.declared.refusal.Refusal.{Refusal}
 
 -- U4 to U9, t being the tally of all entries
 abbrev pub key_rules : List ℕ → Header → Tally → List Bool
@@ -46,12 +45,12 @@ layout_with w p h =
     every (rules_of h ∷ not (empty_leaf_with h) ∷ held_with w p h ∷ disjoint_with w p h ∷ order_with w p h ∷ [])
 
 -- ---- a page that is fit: its header, or 5
-unfoldable pub fit_header_of : ℕ → List ℕ → Admitted
-fit_header_of w p = judge (is_fit w p ∷ []) (Admitted-as-Is (header_of p)) Admitted-as-Refused
+unfoldable pub fit_header_of : ℕ → List ℕ → Result Header Refusal
+fit_header_of w p = judge (is_fit w p ∷ []) (Ok (header_of p)) Err
 
 -- 1, 2, 3, 5, of a key of n bytes
 abbrev pub fit_checks : ℕ → List ℕ → ℕ → List Check
 fit_checks w p n = page_length p ∷ width_known w ∷ check (leb n 65535) KeyLength ∷ is_fit w p ∷ []
 
-unfoldable pub fit_admit_of : ℕ → List ℕ → ℕ → Admitted
-fit_admit_of w p n = judge (fit_checks w p n) (Admitted-as-Is (header_of p)) Admitted-as-Refused
+unfoldable pub fit_admit_of : ℕ → List ℕ → ℕ → Result Header Refusal
+fit_admit_of w p n = judge (fit_checks w p n) (Ok (header_of p)) Err

@@ -7,9 +7,7 @@ ghost use Rattle.node.specs.Header.{rules_of};
 ghost use Rattle.verdict.specs.Fits.{key_rules, fit_with, fit_header_of, fit_admit_of};
 
 use crate::{overlap, pieces, rules, sweep, tally};
-use node::admit::Admitted;
 use node::{admit, header};
-use paper::answers::Verdict;
 use paper::page::Header;
 use paper::refusal::Refusal;
 
@@ -83,42 +81,42 @@ fn first_broken(p: &[u8], width: u8) -> u8
 }
 
 // The fit verdict: 0, or the first rule broken. Refuses 1, 2.
-pub fn fit_verdict(p: &[u8], width: u8) -> Verdict
+pub fn fit_verdict(p: &[u8], width: u8) -> Result<u8, Refusal>
     ensures { result ≡ fit_verdict width p.now }
 {
     if p.len() != 16384 {
-        return Verdict::Refused(Refusal::PageLength);
+        return Err(Refusal::PageLength);
     }
     if !admit::known_width(width) {
-        return Verdict::Refused(Refusal::Width);
+        return Err(Refusal::Width);
     }
-    Verdict::Is(first_broken(p, width))
+    Ok(first_broken(p, width))
 }
 
 // The header of a page that is fit, or 5 with the first rule broken.
-pub fn fit_header(p: &[u8], width: u8) -> Admitted
+pub fn fit_header(p: &[u8], width: u8) -> Result<Header, Refusal>
     requires { 16384 ≤ length p.now }
     ensures { result ≡ fit_header_of width p.now }
 {
     let broken = first_broken(p, width);
     if broken != 0 {
-        return Admitted::Refused(Refusal::NotFit(broken));
+        return Err(Refusal::NotFit(broken));
     }
-    Admitted::Is(header::read_header(p))
+    Ok(header::read_header(p))
 }
 
 // 1, 2, 3 and 5 in this order, for a call whose key has `key_len` bytes; else the header. What an edit begins with.
-pub fn admit_fit(p: &[u8], width: u8, key_len: usize) -> Admitted
+pub fn admit_fit(p: &[u8], width: u8, key_len: usize) -> Result<Header, Refusal>
     ensures { result ≡ fit_admit_of width p.now key_len }
 {
     if p.len() != 16384 {
-        return Admitted::Refused(Refusal::PageLength);
+        return Err(Refusal::PageLength);
     }
     if !admit::known_width(width) {
-        return Admitted::Refused(Refusal::Width);
+        return Err(Refusal::Width);
     }
     if 65535 < key_len {
-        return Admitted::Refused(Refusal::KeyLength);
+        return Err(Refusal::KeyLength);
     }
     fit_header(p, width)
 }

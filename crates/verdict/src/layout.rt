@@ -8,7 +8,6 @@ ghost use Rattle.verdict.specs.Fits.{empty_leaf_with, layout_with};
 
 use crate::{overlap, pieces, rules, sweep, tally};
 use node::{admit, header};
-use paper::answers::Verdict;
 use paper::page::Header;
 use paper::refusal::Refusal;
 
@@ -61,19 +60,15 @@ fn layout_right(p: &[u8], h: Header, width: u8) -> bool
     in_order(p, h, inside, true)
 }
 
-// The layout verdict: 1 yes, 0 no. Refuses 1, 2.
-pub fn layout_verdict(p: &[u8], width: u8) -> Verdict
+// The layout verdict. Refuses 1, 2.
+pub fn layout_verdict(p: &[u8], width: u8) -> Result<bool, Refusal>
     ensures { result ≡ layout_verdict width p.now }
 {
     if p.len() != 16384 {
-        return Verdict::Refused(Refusal::PageLength);
+        return Err(Refusal::PageLength);
     }
     if !admit::known_width(width) {
-        return Verdict::Refused(Refusal::Width);
+        return Err(Refusal::Width);
     }
-    let h = header::read_header(p);
-    if layout_right(p, h, width) {
-        return Verdict::Is(1);
-    }
-    Verdict::Is(0)
+    Ok(layout_right(p, header::read_header(p), width))
 }

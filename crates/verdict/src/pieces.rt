@@ -5,7 +5,6 @@ ghost use Rattle.paper.specs.Verdicts.{slot_payload, fence_piece, prefix_piece};
 ghost use Rattle.node.specs.Header.{rules_of};
 ghost use Rattle.verdict.specs.Pieces.{held_with, piece_at};
 
-use node::slots::SlotRead;
 use node::{header, slots, space};
 use paper::page::{Header, Slot};
 
@@ -23,7 +22,7 @@ pub fn payloads_held(p: &[u8], h: Header, width: u8) -> bool
 {
     let mut i = 0;
     while i < (h.count as usize) {
-        let SlotRead::Is(_) = slots::visit_slot(p, h.count, h.end, width, i) else {
+        let Ok(_) = slots::visit_slot(p, h.count, h.end, width, i) else {
             return false;
         };
         i += 1;

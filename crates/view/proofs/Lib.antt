@@ -1,4 +1,3 @@
-pub mod Longs
 pub mod Shows
 pub mod Paged
 pub mod Entering

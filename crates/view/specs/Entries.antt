@@ -4,9 +4,10 @@ use Rattle.octets.specs.Bytes.{le}
 use Rattle.paper.specs.Page.{slot_of, value_at}
 use Rattle.paper.specs.Refusals.{judge}
 use Rattle.paper.specs.Calls.{key_at, copy_checks}
+use Rattle.std.specs.Prelude.{Result, Ok, Err}
+use Rattle.paper.specs.declared.refusal.Refusal.{Refusal}
 use Rattle.view.specs.declared.entry.EntryShown.{EntryShown}
-use Rattle.view.specs.declared.entry.EntryShown.TheVariants.{Is as Shown-as-Is, Refused as Shown-as-Refused}
 
 -- entry "1, 2, 4, 10, 14", and 15 where the buffer has no room for the key; what the buffer holds afterwards is the paper's `copy_buffer`
-unfoldable pub shown_entry : ℕ → List ℕ → ℕ → List ℕ → EntryShown
-shown_entry w p i out = judge (copy_checks w p i out) (Shown-as-Is (le w p (value_at (slot_of p i))) (length (key_at p (slot_of p i)))) Shown-as-Refused
+unfoldable pub shown_entry : ℕ → List ℕ → ℕ → List ℕ → Result EntryShown Refusal
+shown_entry w p i out = judge (copy_checks w p i out) (Ok (record { value = le w p (value_at (slot_of p i)); key_len = length (key_at p (slot_of p i)) })) Err

@@ -1,18 +1,18 @@
-// The key view: prefix and long suffix as they stand on the page. A struct that holds slices: every function here is thin,
-// and leaves the work to one with plain parameters.
-ghost use Rattle.std.specs.Prelude.{◌≡◌, ◌+◌, ◌^◌, ◌<◌, ◌≤◌, length};
+// The key view: prefix and long suffix as they stand on the page, in a struct with a few thin methods.
+ghost use Rattle.std.specs.Prelude.{◌≡◌, ◌++◌, ◌+◌, ◌^◌, ◌<◌, ◌≤◌, length};
 ghost use Rattle.octets.specs.Bytes.{big_bytes, put};
 ghost use Rattle.keys.specs.Keys.{order};
-ghost use Rattle.paper.specs.Page.{prefix_of, body_bytes};
-ghost use Rattle.view.specs.Shown.{long_suffix, shown_key};
+ghost use Rattle.paper.specs.Page.{prefix_of, suffix_of, body_bytes};
+ghost use Rattle.view.specs.Shown.{long_suffix, shown_suffix, shown};
 
-use crate::parts;
-use keys::order::Order;
+use keys::shared;
 use node::key;
+use octets::runs;
 use paper::page::Slot;
+use std::cmp::Ordering;
 
 // A key: the page's prefix, then a suffix of `len` bytes, which is `suffix` where it is longer than four and else the first
-// of the `short` bytes.
+// of the `short` bytes. Anyone may build one, so there is no invariant: each method asks for what it needs.
 #[derive(Clone, Copy)]
 pub struct KeyView<'p> {
     pub prefix: &'p [u8],
@@ -21,59 +21,94 @@ pub struct KeyView<'p> {
     pub len: usize,
 }
 
-// The view of a slot's key on a page whose prefix has that length.
-pub fn view<'p>(p: &'p [u8], prefix_len: u16, s: Slot) -> KeyView<'p>
-    requires { (16384 ≤ length p.now) × (prefix_len ≤ 16256) × (96 + s.offset + body_bytes 4 s.len ≤ length p.now) }
-    ensures { (result.prefix.now ≡ prefix_of p.now prefix_len) × (result.suffix.now ≡ long_suffix p.now s) × (result.short ≡ big_bytes 4 s.head) × (result.len ≡ s.len) }
+// The long suffix of a slot as it stands on the page; no bytes where the suffix is short. It asks less of the page than a whole
+// view does, and so stands by itself.
+#[tactic(auto, unfolding(paper::specs::Page::body_bytes, octets::specs::Bytes::part))]
+pub fn long_suffix(p: &[u8], s: Slot) -> &[u8]
+    requires { 96 + s.offset + body_bytes 4 s.len ≤ length p.now }
+    ensures { result.now ≡ long_suffix p.now s }
 {
-    KeyView {
-        prefix: key::prefix(p, prefix_len),
-        suffix: parts::long_suffix(p, s),
-        short: key::head_bytes(s.head),
-        len: s.len as usize,
+    let n = s.len as usize;
+    if n <= 4 {
+        return &p[..0];
     }
+    let start = 96 + (s.offset as usize);
+    &p[start..start + n]
 }
 
-// The length of the key.
-pub fn length<'p>(v: KeyView<'p>) -> usize
-    requires { length v.prefix.now + v.len < 2 ^ 64 }
-    ensures { result ≡ length v.entry.prefix.now + v.entry.len }
-{
-    v.prefix.len() + v.len
-}
+impl<'p> KeyView<'p> {
+    // The view of a slot's key on a page whose prefix has that length.
+    pub fn new(p: &'p [u8], prefix_len: u16, s: Slot) -> KeyView<'p>
+        requires { (16384 ≤ length p.now) × (prefix_len ≤ 16256) × (96 + s.offset + body_bytes 4 s.len ≤ length p.now) }
+        ensures parts { (result.prefix.now ≡ prefix_of p.now prefix_len) × (result.suffix.now ≡ long_suffix p.now s) × (result.short ≡ big_bytes 4 s.head) × (result.len ≡ s.len) }
+        ensures key { shown result ≡ prefix_of p.now prefix_len ++ suffix_of p.now s }
+        ensures size { (length result.prefix.now ≡ prefix_len) × (length (shown result) ≡ prefix_len + s.len) }
+    {
+        KeyView {
+            prefix: key::prefix(p, prefix_len),
+            suffix: long_suffix(p, s),
+            short: key::head_bytes(s.head),
+            len: s.len as usize,
+        }
+    }
 
-// The prefix.
-pub fn prefix<'p>(v: KeyView<'p>) -> &'p [u8]
-    ensures { result ≡ v.entry.prefix }
-{
-    v.prefix
-}
+    // The length of the key.
+    pub fn len(&self) -> usize
+        requires { length self.now.prefix.now + self.now.len < 2 ^ 64 }
+        ensures { result ≡ length self.now.prefix.now + self.now.len }
+    {
+        self.prefix.len() + self.len
+    }
 
-// The long suffix; no bytes where the suffix is short.
-pub fn suffix<'p>(v: KeyView<'p>) -> &'p [u8]
-    ensures { result ≡ v.entry.suffix }
-{
-    v.suffix
-}
+    // The prefix.
+    pub fn prefix(&self) -> &'p [u8]
+        ensures { result ≡ self.now.prefix }
+    {
+        self.prefix
+    }
 
-// The four bytes of which the first are a short suffix.
-pub fn short<'p>(v: KeyView<'p>) -> [u8; 4]
-    ensures { result ≡ v.entry.short }
-{
-    v.short
-}
+    // The long suffix; no bytes where the suffix is short.
+    pub fn suffix(&self) -> &'p [u8]
+        ensures { result ≡ self.now.suffix }
+    {
+        self.suffix
+    }
 
-// The key shown, below, at or above the probe.
-pub fn compare<'p, 'k>(v: KeyView<'p>, probe: &'k [u8]) -> Order
-    ensures { result ≡ order (shown_key v.entry.prefix.now v.entry.suffix.now v.entry.short v.entry.len) probe.now }
-{
-    parts::compare(v.prefix, v.suffix, v.short, v.len, probe)
-}
+    // The four bytes of which the first are a short suffix.
+    pub fn short(&self) -> [u8; 4]
+        ensures { result ≡ self.now.short }
+    {
+        self.short
+    }
 
-// Writes the key shown to the front of `out`, and no other byte.
-pub fn copy<'p, 'o>(v: KeyView<'p>, out: &'o mut [u8])
-    requires { length (shown_key v.prefix.now v.suffix.now v.short v.len) ≤ length out.old }
-    ensures { out.new ≡ put out.old 0 (shown_key v.entry.prefix.now v.entry.suffix.now v.entry.short v.entry.len) }
-{
-    parts::copy(v.prefix, v.suffix, v.short, v.len, out)
+    // The suffix shown: the first of the short bytes, or the long one.
+    pub fn shown_suffix(&self) -> &[u8]
+        ensures { result.now ≡ shown_suffix self.now.suffix.now self.now.short self.now.len }
+    {
+        if self.len <= 4 {
+            return &self.short[..self.len];
+        }
+        self.suffix
+    }
+
+    // The key shown, below, at or above the probe.
+    pub fn compare(&self, probe: &[u8]) -> Ordering
+        ensures { result ≡ order (shown self.now) probe.now }
+    {
+        let n = self.prefix.len().min(probe.len());
+        match shared::order_by_shared(self.prefix, &probe[..n]) {
+            Ordering::Equal => shared::order_by_shared(self.shown_suffix(), &probe[n..]),
+            apart => apart,
+        }
+    }
+
+    // Writes the key shown to the front of `out`, and no other byte.
+    #[tactic(auto, using(node::proofs::Spelling::put_both))]
+    pub fn copy(&self, out: &mut [u8])
+        requires { length (shown self.now) ≤ length out.old }
+        ensures { out.new ≡ put out.old 0 (shown self.now) }
+    {
+        runs::copy_in(out, 0, self.prefix);
+        runs::copy_in(out, self.prefix.len(), self.shown_suffix());
+    }
 }

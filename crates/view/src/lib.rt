@@ -2,5 +2,3 @@
 
 pub mod entry;
 pub mod key;
-pub mod parts;
-pub mod plain;

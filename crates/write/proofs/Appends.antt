@@ -1,73 +1,50 @@
 -- A run appended entry by entry: the first entry of what is left of the run is the slot that code reads, it has room, and once it is
 -- filed the page is ready for the rest. Assumes nothing.
 use mathlib.Core.Path.{◌≡◌, sym, ap, ◌∙◌}
-use mathlib.Core.List.{List, ◌∷◌, ◌++◌, map}
+use mathlib.Core.List.{List, ◌∷◌}
 use Prim.Native.Nat.{ℕ, suc, ◌+◌, ◌-◌, ◌≤◌, ◌<◌}
 use native.Mathlib.Omega.{arith}
-use lib.ListN.{length, get_or, drop, length-append, length-drop, length-map, get_or-map}
+use lib.ListN.{length, drop}
 use lib.Seq.{drop-cons}
-use Rattle.octets.specs.Bytes.{le}
-use Rattle.paper.specs.Lists.{tab, sum}
-use Rattle.paper.specs.Page.{slot_of, prefix_of, suffix_of, value_at, Row, row_of, frame_of, numbers_of, header_of, view_of}
+use Rattle.paper.specs.Lists.{sum}
+use Rattle.paper.specs.Page.{row_of, frame_of, numbers_of, header_of}
 use Rattle.paper.specs.Space.{need}
 use Rattle.paper.specs.Hints.{refresh}
-use Rattle.paper.specs.Listing.{Entry, entry_of, listing}
+use Rattle.paper.specs.Listing.{Entry, listing}
 use Rattle.paper.specs.Edits.{more, numbered, appended, run_copied}
 use Rattle.paper.specs.Calls.{run, need_of_all}
 use Rattle.paper.specs.declared.page.Header.{Header}
-use Rattle.paper.proofs.Lists.{length-tab, getD-tab}
+use Rattle.paper.proofs.Listed.{listed}
+use Rattle.paper.proofs.Filing.{length-listing}
 use Rattle.node.specs.Header.{numbers_in}
-use Rattle.node.proofs.Spelling.{length-prefix_of, length-suffix_of}
 use Rattle.hint.specs.Refresh.{refresh_as}
-use Rattle.write.specs.Room.{with_numbers, Room, Source, Ready}
+use Rattle.write.specs.Room.{with_numbers, Room, Ready, entry_at, cut_key}
 use Rattle.write.proofs.Filings.{refresh_by, file-header, file-length}
 
 -- ---- the listing at a place
 module _ (w : ℕ) (q : List ℕ) where
-  listing-at : (j : ℕ) → j < (numbers_of q).count → drop j (listing w q) ≡ entry_of (frame_of q) (row_of w q (slot_of q j)) ∷ drop (suc j) (listing w q)
-  unfolding listing view_of
+  listing-at : (j : ℕ) → j < (numbers_of q).count → drop j (listing w q) ≡ entry_at w q j ∷ drop (suc j) (listing w q)
+  unfolding row_of
   listing-at j h =
-      let n = (numbers_of q).count in
-      let f : ℕ → Row = λ i. row_of w q (slot_of q i) in
-      let g : Row → Entry = entry_of (frame_of q) in
-      let l = map g (tab n f) in
-      let at : get_or l j (g (f j)) ≡ g (f j) = get_or-map g (tab n f) j (f j) ∙ ap g (getD-tab n f j (f j) h) in
-      drop-cons l j (g (f j)) (rw (length-map (tab n f) g, length-tab n f) h) ∙ ap (λ (e : Entry). e ∷ drop (suc j) l) at
+      let x = entry_at w q j in
+      drop-cons (listing w q) j x (rw length-listing h) ∙ ap (λ (e : Entry). e ∷ drop (suc j) (listing w q)) (listed w q j x h)
 
   -- what is left of a run up to e begins with entry j
-  run_at : (j e : ℕ) → j < e → e ≤ (numbers_of q).count → run w q j (e - j) ≡ entry_of (frame_of q) (row_of w q (slot_of q j)) ∷ run w q (j + 1) (e - (j + 1))
+  run_at : (j e : ℕ) → j < e → e ≤ (numbers_of q).count → run w q j (e - j) ≡ entry_at w q j ∷ run w q (j + 1) (e - (j + 1))
   run_at j e h k =
       let a : e - j ≡ suc (e - (j + 1)) = omega arith in
       let b : suc j ≡ j + 1 = omega arith in
       rw (a, listing-at j (omega arith), b)
 
 -- ---- one entry
-module _ (w : ℕ) (p : List ℕ) (h : Header) (q : List ℕ) (l j e : ℕ) (Q : Source w q l) (lt : j < e) (le' : e ≤ (numbers_of q).count) (R : Ready w p h (run w q j (e - j))) where
-  -- what the code files of it: a key without the page's prefix, of so many bytes, and its value
-  abbrev cutKey : List ℕ
-  cutKey = drop h.prefix_len (prefix_of q l ++ suffix_of q (slot_of q j))
-
-  abbrev cutBytes : ℕ
-  cutBytes = l + (slot_of q j).len - h.prefix_len
-
-  abbrev value : ℕ
-  value = le w q (value_at (slot_of q j))
+module _ (w : ℕ) (p : List ℕ) (h : Header) (q : List ℕ) (j e : ℕ) (lt : j < e) (le' : e ≤ (numbers_of q).count) (R : Ready w p h (run w q j (e - j))) where
+  -- what the code files of it: its key without the page's prefix
+  abbrev key : List ℕ
+  key = cut_key h (entry_at w q j)
 
   -- what is left of the run behind it
   abbrev behind : List Entry
   behind = run w q (j + 1) (e - (j + 1))
-
-  length-key : length cutKey ≡ cutBytes
-  length-key =
-      rw (length-drop, length-append, length-prefix_of q l Q.size Q.most, length-suffix_of q (slot_of q j) (omega (arith, Q.size, Q.rows j (omega arith))))
-
-  -- the entry as the code reads it
-  entry-is : entry_of (frame_of q) (row_of w q (slot_of q j)) ≡ record { key = prefix_of q l ++ suffix_of q (slot_of q j); value = value }
-  unfolding row_of frame_of
-  entry-is = rw Q.prefix
-
-  run_is : run w q j (e - j) ≡ record { key = prefix_of q l ++ suffix_of q (slot_of q j); value = value } ∷ behind
-  run_is = run_at w q j e lt le' ∙ ap (λ (x : Entry). x ∷ behind) entry-is
 
   count-is : (numbers_of p).count ≡ h.count
   unfolding header_of
@@ -78,13 +55,13 @@ module _ (w : ℕ) (p : List ℕ) (h : Header) (q : List ℕ) (l j e : ℕ) (Q :
   prefix-is = ap (λ (g : Header). g.prefix_len) (sym R.header)
 
   -- its need, and that of the rest
-  needs-is : need_of_all w p (run w q j (e - j)) ≡ need w cutBytes + need_of_all w p behind
+  needs-is : need_of_all w p (run w q j (e - j)) ≡ need w (length key) + need_of_all w p behind
   unfolding need_of_all sum
   needs-is =
-      let cut : length (drop (frame_of p).prefix_len (prefix_of q l ++ suffix_of q (slot_of q j))) ≡ cutBytes = rw prefix-is length-key in
-      ap (need_of_all w p) run_is ∙ ap (λ (n : ℕ). need w n + need_of_all w p behind) cut
+      let cut : length (drop (frame_of p).prefix_len (entry_at w q j).key) ≡ length key = rw prefix-is in
+      ap (need_of_all w p) (run_at w q j e lt le') ∙ ap (λ (n : ℕ). need w n + need_of_all w p behind) cut
 
-  pub turn-room : Room w p h h.count cutBytes
+  pub turn-room : Room w p h h.count (length key)
   unfolding need
   turn-room =
       record {
@@ -98,13 +75,10 @@ module _ (w : ℕ) (p : List ℕ) (h : Header) (q : List ℕ) (l j e : ℕ) (Q :
       }
 
   -- g and r are what the entry filed leaves
-  module _ (g : Header) (r : List ℕ) (eg : g ≡ with_numbers h (more w (numbers_in h) cutBytes))
-      (er : r ≡ numbered w p h.count cutKey value) where
-    room : Room w p h h.count (length cutKey)
-    room = rw length-key turn-room
-
+  module _ (g : Header) (r : List ℕ) (eg : g ≡ with_numbers h (more w (numbers_in h) (length key)))
+      (er : r ≡ numbered w p h.count key (entry_at w q j).value) where
     header : g ≡ header_of r
-    header = rw er (file-header w p h h.count cutKey value room g (rw length-key eg))
+    header = rw er (file-header w p h h.count key (entry_at w q j).value turn-room g eg)
 
     needs-same : (es : List Entry) → need_of_all w r es ≡ need_of_all w p es
     unfolding need_of_all header_of with_numbers
@@ -113,8 +87,7 @@ module _ (w : ℕ) (p : List ℕ) (h : Header) (q : List ℕ) (l j e : ℕ) (Q :
         rw x
 
     size : 16384 ≤ length r
-    size =
-        rw (er, file-length w p h h.count cutKey value room g (rw length-key eg)) R.size
+    size = rw (er, file-length w p h h.count key (entry_at w q j).value turn-room g eg) R.size
 
     pub turn-ready : Ready w r g behind
     unfolding with_numbers more need
@@ -128,12 +101,9 @@ module _ (w : ℕ) (p : List ℕ) (h : Header) (q : List ℕ) (l j e : ℕ) (Q :
           room = rw (needs-same behind, eg) (omega (arith, R.room, needs-is));
         }
 
-    filed-is : numbered w p (numbers_of p).count (drop (frame_of p).prefix_len (prefix_of q l ++ suffix_of q (slot_of q j))) value ≡ r
-    filed-is = rw (prefix-is, count-is) (sym er)
-
     pub turn-page : appended w p (run w q j (e - j)) ≡ appended w r behind
     unfolding appended
-    turn-page = ap (appended w p) run_is ∙ ap (λ (x : List ℕ). appended w x behind) filed-is
+    turn-page = ap (appended w p) (run_at w q j e lt le') ∙ ap (λ (x : List ℕ). appended w x behind) (rw (prefix-is, count-is) (sym er))
 
 -- none is left
 pub run_done : (w : ℕ) (p q : List ℕ) (j e : ℕ) → e ≤ j → appended w p (run w q j (e - j)) ≡ p

@@ -43,32 +43,20 @@ module _ (q p : List ℕ) (n : Numbers) (l : 96 ≤ length q) (F : Fits n) (S : 
       let low = kept 0 2 refl (omega arith) in
       let mid = kept 8 32 refl (omega arith) in
       let high = kept 44 4 refl (omega arith) in
-      let height = same-le r p 0 2 low 2 0 (omega arith) (omega arith) in
-      let count = le-field fs 0 q 96 l refl F.count in
-      let start = le-field fs 1 q 96 l refl F.start in
-      let end = le-field fs 2 q 96 l refl F.end in
-      let timestamp = same-le r p 8 40 mid 8 8 (omega arith) (omega arith) in
-      let lower = same-slot r p 8 40 mid 16 (omega arith) (omega arith) in
-      let value = same-le r p 8 40 mid 8 24 (omega arith) (omega arith) in
-      let upper = same-slot r p 8 40 mid 32 (omega arith) (omega arith) in
-      let effective = le-field fs 3 q 96 l refl F.effective in
-      let initialized = same-le r p 44 48 high 1 44 (omega arith) (omega arith) in
-      let flag = same-le r p 44 48 high 1 45 (omega arith) (omega arith) in
-      let prefix = same-le r p 44 48 high 2 46 (omega arith) (omega arith) in
-      λ k. record {
-        height = height k;
-        count = count k;
-        start = start k;
-        end = end k;
-        timestamp = timestamp k;
-        lower = lower k;
-        lower_value = value k;
-        upper = upper k;
-        effective = effective k;
-        initialized = initialized k;
-        flag = flag k;
-        prefix_len = prefix k;
-      }
+      rw (
+        same-le r p 0 2 low 2 0 (omega arith) (omega arith),
+        le-field fs 0 q 96 l refl F.count,
+        le-field fs 1 q 96 l refl F.start,
+        le-field fs 2 q 96 l refl F.end,
+        same-le r p 8 40 mid 8 8 (omega arith) (omega arith),
+        same-slot r p 8 40 mid 16 (omega arith) (omega arith),
+        same-le r p 8 40 mid 8 24 (omega arith) (omega arith),
+        same-slot r p 8 40 mid 32 (omega arith) (omega arith),
+        le-field fs 3 q 96 l refl F.effective,
+        same-le r p 44 48 high 1 44 (omega arith) (omega arith),
+        same-le r p 44 48 high 1 45 (omega arith) (omega arith),
+        same-le r p 44 48 high 2 46 (omega arith) (omega arith),
+      )
 
 -- the refresh by a header is that of its page
 pub refresh_by : (q : List ℕ) (g : Header) → g ≡ header_of q → refresh_as g.flag g.count q ≡ refresh q

@@ -1,59 +1,36 @@
--- A suffix in two pieces a and b: its bytes, its head, and what two writers leave of it. Assumes nothing.
-use mathlib.Core.Path.{◌≡◌, refl, sym, ap, ◌∙◌}
-use mathlib.Core.List.{List, [], ◌∷◌, ◌++◌}
-use Prim.Native.Nat.{ℕ, ◌+◌, ◌-◌, ◌≤◌, ◌<◌}
+-- A suffix in two pieces a and b, one after the other: both written, and both without their first bytes. Assumes nothing.
+use mathlib.Core.Path.{◌≡◌, sym, ap, ◌∙◌}
+use mathlib.Core.List.{List, ◌++◌}
+use Prim.Native.Nat.{ℕ, ◌+◌, ◌-◌, ◌≤◌, ◌<◌, min}
+use native.Mathlib.Decide.{dec_le}
 use native.Mathlib.Omega.{arith}
-use lib.ListN.{length, get_or, length-append, get_or-append, get_or-eq_default}
-use lib.Seq.{take-length, get_or-append-add}
-use Rattle.octets.specs.Bytes.{bytes, put}
-use Rattle.octets.proofs.Put.{put_two}
-use Rattle.keys.specs.Keys.{head_of}
+use native.Mathlib.Nat.{zero-add}
+use lib.ListN.{length, drop, length-append, drop_of_length-le}
+use lib.Seq.{take-length, drop-append-le, drop-append-add}
+use Rattle.std.proofs.lemmas.List.{drop_min}
+use Rattle.octets.specs.Bytes.{put}
+use Rattle.octets.proofs.Put.{put-append}
 use Rattle.paper.specs.Page.{body_bytes}
-use Rattle.paper.specs.Edits.{outline, payload_of}
-use Rattle.paper.proofs.Same.{body_bytes_short, body_bytes_long}
-use Rattle.paper.proofs.Payloads.{length-outline}
+use Rattle.paper.specs.Edits.{outline}
+use Rattle.paper.proofs.Same.{body_bytes_long}
 
-module _ (a b : List ℕ) where
-  -- ---- a byte of the suffix, from the one piece, from the other, past both
-  module _ (i x : ℕ) where
-    pub byte-lead : i < length a → (x ≡ get_or a i 0) × (x < 256) → (x ≡ get_or (a ++ b) i 0) × (x < 256)
-    byte-lead h e = (e.0 ∙ sym (get_or-append a b 0 i h), e.1)
+module _ (a b s : List ℕ) (e : a ++ b ≡ s) where
+  -- a suffix above four bytes is written, piece after piece
+  pub long_room : (n : ℕ) → 4 < length s → body_bytes 4 (length s) ≤ n → length a + length b ≤ n
+  long_room n h l = omega (arith, body_bytes_long 4 (length s) h, simp length-append at (ap length e))
 
-    pub byte-rest : length a ≤ i → (x ≡ get_or b (i - length a) 0) × (x < 256) → (x ≡ get_or (a ++ b) i 0) × (x < 256)
-    byte-rest h e =
-        let k : length a + (i - length a) ≡ i = omega arith in
-        (e.0 ∙ sym (get_or-append-add a b (i - length a) 0) ∙ ap (λ j. get_or (a ++ b) j 0) k, e.1)
+  pub both_written : (p : List ℕ) → 4 < length s → put (put p 0 a) (length a) b ≡ put p 0 (outline 4 s)
+  both_written p h =
+      let all : outline 4 s ≡ s = rw (body_bytes_long 4 (length s) h) (take-length s) in
+      rw (all, ← e, put-append, zero-add)
 
-  pub byte-none : (i : ℕ) → length a ≤ i → length b ≤ i - length a → (0 ≡ get_or (a ++ b) i 0) × (0 < 256)
-  byte-none i h l = (sym (get_or-eq_default (a ++ b) 0 {n = i} (rw length-append (omega arith))), omega arith)
-
-  -- ---- a suffix that is above four bytes is written, piece after piece
-  pub long_room : (n : ℕ) → 4 < length a + length b → body_bytes 4 (length a + length b) ≤ n → length a + length b ≤ n
-  long_room n h l = omega (arith, body_bytes_long 4 (length a + length b) h)
-
-  module _ (p : List ℕ) where
-    pub suffix-short : length a + length b ≤ 4 → (0 ≡ body_bytes 4 (length a + length b)) × (p ≡ put p 0 (outline 4 (a ++ b)))
-    unfolding put
-    suffix-short h = let e = body_bytes_short 4 (length a + length b) h in (sym e, rw (length-append, e))
-
-    pub suffix-long : (q r : List ℕ) → 4 < length a + length b → q ≡ put p 0 a → r ≡ put q (length a) b
-        → (length a + length b ≡ body_bytes 4 (length a + length b)) × (r ≡ put p 0 (outline 4 (a ++ b)))
-    suffix-long q r h eq er =
-        let e = body_bytes_long 4 (length a + length b) h in
-        let z : length a ≡ 0 + length a = omega arith in
-        let both : r ≡ put p 0 (a ++ b) = er ∙ rw eq (ap (λ k. put (put p 0 a) k b) z ∙ put_two p 0 a b (length a) refl) in
-        let all : outline 4 (a ++ b) ≡ a ++ b = rw (length-append, e, ← length-append a b) (take-length (a ++ b)) in
-        (sym e, both ∙ rw all)
-
-    -- and the value behind it
-    pub payload-joined : (w v n : ℕ) (q r : List ℕ) → n ≡ body_bytes 4 (length a + length b) → q ≡ put p 0 (outline 4 (a ++ b)) → r ≡ put q n (bytes w v)
-        → r ≡ put p 0 (payload_of w (a ++ b) v)
-    payload-joined w v n q r e eq er =
-        let z : n ≡ 0 + n = omega arith in
-        let l : length (outline 4 (a ++ b)) ≡ n = length-outline 4 (a ++ b) ∙ rw length-append (sym e) in
-        er ∙ rw eq (ap (λ k. put (put p 0 (outline 4 (a ++ b))) k (bytes w v)) z ∙ put_two p 0 (outline 4 (a ++ b)) (bytes w v) n l)
-
--- the head of a suffix whose first piece is empty
-pub head-rest : (a b : List ℕ) (x : ℕ) → length a ≡ 0 → x ≡ head_of b → x ≡ head_of (a ++ b)
-head-rest [] b x h e = e
-head-rest (y ∷ a) b x h e = absurd (omega arith)
+-- two lists without their first m bytes: m of the first, and what is left of m of the second
+pub drop-both : (m : ℕ) (a b : List ℕ) → drop (min m (length a)) a ++ drop (min (m - min m (length a)) (length b)) b ≡ drop m (a ++ b)
+drop-both m a b = rw (drop_min m a, drop_min (m - min m (length a)) b) (go (dec_le m (length a)))
+  where
+    go : Dec (m ≤ length a) → drop m a ++ drop (m - min m (length a)) b ≡ drop m (a ++ b)
+    go (yes h) = let e : m - min m (length a) ≡ 0 = omega arith in rw e (sym (drop-append-le m a b h))
+    go (no h) =
+        let e : m - min m (length a) ≡ m - length a = omega arith in
+        let f : length a + (m - length a) ≡ m = omega arith in
+        rw (e, drop_of_length-le a {i = m} (omega arith)) (sym (drop-append-add a b (m - length a)) ∙ ap (λ k. drop k (a ++ b)) f)

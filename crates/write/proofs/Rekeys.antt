@@ -6,6 +6,8 @@ use mathlib.Core.List.{List}
 use Prim.Native.Nat.{ℕ, ◌+◌, ◌*◌, ◌-◌, ◌≤◌, ◌<◌, min}
 use native.Mathlib.Omega.{arith}
 use lib.ListN.{length}
+use Rattle.std.specs.Prelude.{Option, Some, None}
+use Rattle.std.specs.Option.{unwrap_or}
 use Rattle.octets.specs.Bytes.{le, put}
 use Rattle.octets.proofs.Put.{length-put, put_below}
 use Rattle.keys.specs.Choice.{pick}
@@ -32,12 +34,10 @@ pub value-within : (w : ℕ) (p : List ℕ) (i : ℕ) (o : Slot) (at : ℕ) → 
 unfolding slot_of
 value-within w p i o at e a h = rw (a, e) (omega arith)
 
--- ---- the header after a key change, edited field by field
-pub rekeyed_is : (w : ℕ) (h : Header) (o : Slot) (s : List ℕ) (n m e : ℕ) (a g : Header) → n ≡ body_bytes 4 (length s) → m ≡ body_bytes 4 o.len
-    → e ≡ pick (outgrows o s) (h.end - (length s + w)) h.end → a ≡ with_end h e → g ≡ with_effective a (h.effective + n - m)
-    → g ≡ with_numbers h (rekeyed w (numbers_in h) o s)
-unfolding with_end with_effective with_numbers rekeyed
-rekeyed_is w h o s n m e a g en em ee ea eg = rw (eg, ea, ee, en, em)
+-- ---- a new payload, or the old place
+pub place_or : (m : Option ℕ) (t : Bool) (x y r : ℕ) → m ≡ pick t (Some x) None → r ≡ unwrap_or m y → r ≡ pick t x y
+place_or m true x y r e f = rw (f, e)
+place_or m false x y r e f = rw (f, e)
 
 -- ---- a key change whose slot was read as o
 module _ (w : ℕ) (p : List ℕ) (h : Header) (i : ℕ) (s : List ℕ) (R : Seat w p h i s) (o : Slot) (E : o ≡ slot_at p (place i)) where
@@ -79,11 +79,12 @@ module _ (w : ℕ) (p : List ℕ) (h : Header) (i : ℕ) (s : List ℕ) (R : Sea
   -- payload, slot and numbers written one after the other: q is what the first two leave, r what all leave
   pub rekey-written : (at : ℕ) → at ≡ pick (outgrows o s) (h.end - (length s + w)) o.offset
       → (q : List ℕ) → q ≡ put (put p (96 + at) (payload_of w s (le w p (value_at o)))) (place i) (slot_bytes (slot_for s at))
-      → (g : Header) → g ≡ with_numbers h (rekeyed w (numbers_in h) o s)
+      → (e : ℕ) → e ≡ pick (outgrows o s) (h.end - (length s + w)) h.end
+      → (g : Header) → g ≡ with_effective (with_end h e) (h.effective + body_bytes 4 (length s) - body_bytes 4 o.len)
       → (r : List ℕ) → r ≡ put_all q (number_fields (numbers_in g))
       → (g ≡ with_numbers h (rekeyed w (numbers_in h) (slot_of p i) s)) × (r ≡ put_all (key_put w p i s) (number_fields (rekeyed w (numbers_of p) (slot_of p i) s)))
-  unfolding slot_of key_put key_place with_numbers header_of
-  rekey-written at ea q eq g eg r er = (eg ∙ rw E, er ∙ rw (eq, eg, ea, R.header, E))
+  unfolding slot_of key_put key_place with_end with_effective with_numbers rekeyed header_of
+  rekey-written at ea q eq e ee g eg r er = (rw (eg, ee, E), rw (er, eq, eg, ea, ee, R.header, E))
 
 -- ---- the page after it
 module _ (w : ℕ) (p : List ℕ) (h : Header) (i : ℕ) (s : List ℕ) (R : Seat w p h i s) (g : Header) (e : g ≡ with_numbers h (rekeyed w (numbers_in h) (slot_of p i) s)) where

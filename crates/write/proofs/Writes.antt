@@ -1,20 +1,21 @@
 -- What each writer leaves, as the paper spells it: a header field by field, a slot, a payload, an entry. Assumes nothing.
-use mathlib.Core.Path.{◌≡◌, refl, ap, ◌∙◌}
-use mathlib.Core.List.{List, ◌++◌}
+use mathlib.Core.Path.{◌≡◌, refl}
+use mathlib.Core.List.{List}
 use Prim.Native.Nat.{ℕ, ◌+◌, ◌-◌, ◌≤◌}
+use native.Mathlib.Nat.{zero-add}
 use native.Mathlib.Omega.{arith}
-use lib.ListN.{length, take, length-append}
-use lib.Seq.{length-take-le}
+use lib.ListN.{length, length-append}
 use Rattle.octets.specs.Bytes.{bytes, put}
-use Rattle.octets.proofs.Put.{put_two}
+use Rattle.octets.proofs.Put.{put-append}
 use Rattle.octets.proofs.Little.{length-bytes}
 use Rattle.paper.specs.Page.{body_bytes}
 use Rattle.paper.specs.Space.{payload_bytes, need}
 use Rattle.paper.specs.Headers.{with_count, with_start, with_end, with_effective}
-use Rattle.paper.specs.Edits.{payload_of, slot_bytes, more}
+use Rattle.paper.specs.Edits.{outline, payload_of, slot_bytes, more}
 use Rattle.paper.specs.declared.page.Header.{Header}
 use Rattle.paper.specs.declared.page.Slot.{Slot}
-use Rattle.paper.proofs.Same.{body_bytes-le}
+use Rattle.paper.proofs.Same.{body_bytes_short}
+use Rattle.paper.proofs.Payloads.{length-outline}
 use Rattle.node.specs.Header.{numbers_in}
 use Rattle.write.specs.Room.{with_numbers}
 
@@ -33,17 +34,14 @@ module _ (w : ℕ) (h : Header) (k n : ℕ) (m : n ≡ body_bytes 4 k) (room : h
 -- length, offset and head one after the other
 pub slot_written : (p : List ℕ) (o : ℕ) (s : Slot) → put (put (put p o (bytes 2 s.len)) (o + 2) (bytes 2 s.offset)) (o + 4) (bytes 4 s.head) ≡ put p o (slot_bytes s)
 unfolding slot_bytes
-slot_written p o s =
-    ap (λ q. put q (o + 4) (bytes 4 s.head)) (put_two p o (bytes 2 s.len) (bytes 2 s.offset) 2 (length-bytes 2 s.len))
-    ∙ put_two p o (bytes 2 s.len ++ bytes 2 s.offset) (bytes 4 s.head) 4 (rw (length-append, length-bytes, length-bytes))
+slot_written p o s = simp (put-append, length-append, length-bytes)
 
 -- ---- payloads
--- the n bytes of a suffix that go into the body
-pub outline-length : (s : List ℕ) (n : ℕ) → n ≡ body_bytes 4 (length s) → length (take n s) ≡ n
-outline-length s n e = length-take-le n s (omega (arith, body_bytes-le 4 (length s)))
+-- a suffix of up to four bytes has none there
+pub short_written : (p s : List ℕ) → length s ≤ 4 → p ≡ put p 0 (outline 4 s)
+unfolding put
+short_written p s h = rw (body_bytes_short 4 (length s) h)
 
--- they, and the value behind them
-pub payload_written : (p : List ℕ) (w : ℕ) (s : List ℕ) (v n : ℕ) → n ≡ body_bytes 4 (length s) → put (put p 0 (take n s)) n (bytes w v) ≡ put p 0 (payload_of w s v)
-payload_written p w s v n e =
-    let z : n ≡ 0 + n = omega arith in
-    ap (λ k. put (put p 0 (take n s)) k (bytes w v)) z ∙ put_two p 0 (take n s) (bytes w v) n (outline-length s n e) ∙ rw e
+-- what of a suffix goes into the body, and the value behind it
+pub payload_written : (p : List ℕ) (w : ℕ) (s : List ℕ) (v : ℕ) → put (put p 0 (outline 4 s)) (body_bytes 4 (length s)) (bytes w v) ≡ put p 0 (payload_of w s v)
+payload_written p w s v = rw (put-append, zero-add, length-outline)

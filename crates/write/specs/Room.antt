@@ -1,8 +1,8 @@
 -- The header after an edit, and the facts of a fit page that the writing halves ask for.
-use Rattle.std.specs.Prelude.{◌≡◌, true, List, ℕ, ◌+◌, ◌*◌, ◌≤◌, ◌<◌, length}
-use Rattle.paper.specs.Page.{slot_of, body_bytes, frame_of, Numbers, numbers_of, header_of}
+use Rattle.std.specs.Prelude.{◌≡◌, true, List, ℕ, ◌+◌, ◌*◌, ◌≤◌, ◌<◌, length, drop}
+use Rattle.paper.specs.Page.{slot_of, row_of, body_bytes, frame_of, Numbers, numbers_of, header_of}
 use Rattle.paper.specs.Space.{payload_bytes}
-use Rattle.paper.specs.Listing.{Entry}
+use Rattle.paper.specs.Listing.{Entry, entry_of}
 use Rattle.paper.specs.Edits.{outgrows}
 use Rattle.paper.specs.Calls.{need_of_all}
 use Rattle.paper.specs.declared.page.Header.{Header}
@@ -58,6 +58,14 @@ pub record Source (w : ℕ) (q : List ℕ) (l : ℕ) : Type 0 where
   pub most : l ≤ 16256
   pub slots : 8 * (numbers_of q).count ≤ 16256
   pub rows : (j : ℕ) → j < (numbers_of q).count → (slot_of q j).offset + payload_bytes w (slot_of q j).len ≤ 16256
+
+-- its entry j
+abbrev pub entry_at : ℕ → List ℕ → ℕ → Entry
+entry_at w q j = entry_of (frame_of q) (row_of w q (slot_of q j))
+
+-- what is filed of an entry's key on a page with header h: all but that page's prefix
+abbrev pub cut_key : Header → Entry → List ℕ
+cut_key h e = drop h.prefix_len e.key
 
 -- and the page p with header h has room for the entries es
 pub record Ready (w : ℕ) (p : List ℕ) (h : Header) (es : List Entry) : Type 0 where

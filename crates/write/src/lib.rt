@@ -6,6 +6,6 @@ pub mod copy;
 pub mod insert;
 mod numbers;
 mod payload;
-mod pieces;
 pub mod set;
 mod slot;
+mod suffix;

@@ -3,19 +3,18 @@ ghost use Rattle.std.specs.Prelude.{◌≡◌, ◌+◌, ◌*◌, ◌≤◌, leng
 ghost use Rattle.octets.specs.Bytes.{put};
 ghost use Rattle.paper.specs.Edits.{slot_bytes, slot_for, slot_in};
 
-use keys::head;
+use crate::suffix::Suffix;
 use octets::{number, runs};
 use paper::page::Slot;
 
 // The slot of a suffix whose payload begins at `offset` of the body.
-pub(crate) fn slot_for(suffix: &[u8], offset: u16) -> Slot
-    requires { length suffix.now ≤ 65535 }
+pub(crate) fn slot_for(suffix: &Suffix<'_>, offset: u16) -> Slot
     ensures { result ≡ slot_for suffix.now offset }
 {
     Slot {
         len: suffix.len() as u16,
         offset,
-        head: head::head_int(suffix),
+        head: suffix.head(),
     }
 }
 

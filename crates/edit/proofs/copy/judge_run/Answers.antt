@@ -1,4 +1,5 @@
 -- Each way out is a case of the judgement, with what the tests before it said.
+use Rattle.paper.proofs.Holding.{handed_on}
 use Rattle.edit.proofs.RunCalls.{judged-beyond, judged-past, there, judged-none, judged-entry, first-asked, judged-neighbours, judged-full, judged-done}
 use Rattle.edit.proofs.copy.judge_run.Goals as goal
 
@@ -11,20 +12,22 @@ returns-then-count-a-2 c = judged-past c.args.width _ _ _ _ _ _ c.requires.0 c.r
 pub returns-then-n-eq0 : goal.returns-then-n-eq0
 returns-then-n-eq0 c = judged-none c.args.width _ _ _ _ _ _ c.requires.0 c.requires.1 c.requires.2 c.if-count-a.false c.if-count-a-2.false c.if-n-eq0.true
 
-pub entries_stand-e-requires : goal.entries_stand-e-requires
-entries_stand-e-requires c = (c.requires.0, c.requires.1, there c.args.width _ _ _ _ _ _ c.requires.0 c.requires.1 c.requires.2 c.if-count-a.false c.if-count-a-2.false)
+pub entries_stand-requires : goal.entries_stand-requires
+entries_stand-requires c = (c.requires.0, c.requires.1, there c.args.width _ _ _ _ _ _ c.requires.0 c.requires.1 c.requires.2 c.if-count-a.false c.if-count-a-2.false)
 
-pub returns-in_default : goal.returns-in_default
-returns-in_default c = judged-entry c.args.width _ _ _ _ _ _ c.requires.0 c.requires.1 c.requires.2 c.if-count-a.false c.if-count-a-2.false c.if-n-eq0.false _ c.entries_stand-e.ensures _ c.in_default.is
+pub returns-in_err-entries_stand : goal.returns-in_err-entries_stand
+returns-in_err-entries_stand c =
+    rw (handed_on c.from_residual.result _ c.from_residual.ensures.1)
+    (judged-entry c.args.width _ _ _ _ _ _ c.requires.0 c.requires.1 c.requires.2 c.if-count-a.false c.if-count-a-2.false c.if-n-eq0.false _ c.entries_stand.ensures _ c.in_err-entries_stand.was)
 
 pub above_last-requires : goal.above_last-requires
 above_last-requires c =
-    let first = first-asked c.args.width _ _ _ _ _ _ c.requires.0 c.requires.1 c.requires.2 c.if-count-a.false c.if-count-a-2.false c.if-n-eq0.false _ c.entries_stand-e.ensures c.in-Done.is in
+    let first = first-asked c.args.width _ _ _ _ _ _ c.requires.0 c.requires.1 c.requires.2 c.if-count-a.false c.if-count-a-2.false c.if-n-eq0.false _ c.entries_stand.ensures c.in_ok-entries_stand.was in
     (c.requires.0, c.requires.1, first.0, first.1)
 
 pub returns-then-not-above_last : goal.returns-then-not-above_last
 returns-then-not-above_last c =
-    judged-neighbours c.args.width _ _ _ _ _ _ c.requires.0 c.requires.1 c.requires.2 c.if-count-a.false c.if-count-a-2.false c.if-n-eq0.false _ c.entries_stand-e.ensures c.in-Done.is _
+    judged-neighbours c.args.width _ _ _ _ _ _ c.requires.0 c.requires.1 c.requires.2 c.if-count-a.false c.if-count-a-2.false c.if-n-eq0.false _ c.entries_stand.ensures c.in_ok-entries_stand.was _
     c.above_last.ensures c.if-not-above_last.true
 
 pub run_fits-requires : goal.run_fits-requires
@@ -32,10 +35,10 @@ run_fits-requires c = (c.requires.1, there c.args.width _ _ _ _ _ _ c.requires.0
 
 pub returns-then-not-run_fits : goal.returns-then-not-run_fits
 returns-then-not-run_fits c =
-    judged-full c.args.width _ _ _ _ _ _ c.requires.0 c.requires.1 c.requires.2 c.if-count-a.false c.if-count-a-2.false c.if-n-eq0.false _ c.entries_stand-e.ensures c.in-Done.is _
+    judged-full c.args.width _ _ _ _ _ _ c.requires.0 c.requires.1 c.requires.2 c.if-count-a.false c.if-count-a-2.false c.if-n-eq0.false _ c.entries_stand.ensures c.in_ok-entries_stand.was _
     c.above_last.ensures c.if-not-above_last.false _ c.run_fits.ensures c.if-not-run_fits.true
 
 pub returns : goal.returns
 returns c =
-    judged-done c.args.width _ _ _ _ _ _ c.requires.0 c.requires.1 c.requires.2 c.if-count-a.false c.if-count-a-2.false c.if-n-eq0.false _ c.entries_stand-e.ensures c.in-Done.is _
+    judged-done c.args.width _ _ _ _ _ _ c.requires.0 c.requires.1 c.requires.2 c.if-count-a.false c.if-count-a-2.false c.if-n-eq0.false _ c.entries_stand.ensures c.in_ok-entries_stand.was _
     c.above_last.ensures c.if-not-above_last.false _ c.run_fits.ensures c.if-not-run_fits.false

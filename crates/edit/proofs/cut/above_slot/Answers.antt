@@ -1,17 +1,11 @@
--- One answer for each of the three orders, seen from the slot.
-use Rattle.keys.specs.Keys.{flip}
+-- The order seen from the slot.
+use mathlib.Core.Path.{sym, ap, ◌∙◌}
+use Rattle.std.specs.Ordering.{is_lt}
 use Rattle.keys.proofs.Orders.{order_flip}
-use Rattle.paper.specs.Lists.{is_below, less}
+use Rattle.paper.specs.Lists.{less}
+use Rattle.edit.proofs.Cuts.{lt_reverse}
 use Rattle.edit.proofs.cut.above_slot.Goals as goal
 
-pub returns-in-Below : goal.returns-in-Below
-unfolding less is_below flip
-returns-in-Below c = rw (order_flip, ← c.order_slot.ensures, c.in-Below.is)
-
-pub returns-in-Same : goal.returns-in-Same
-unfolding less is_below flip
-returns-in-Same c = rw (order_flip, ← c.order_slot.ensures, c.in-Same.is)
-
-pub returns-in-Above : goal.returns-in-Above
-unfolding less is_below flip
-returns-in-Above c = rw (order_flip, ← c.order_slot.ensures, c.in-Above.is)
+pub returns : goal.returns
+unfolding less
+returns c = rw (c.is_gt.ensures, c.order_slot.ensures) (lt_reverse _ ∙ ap is_lt (sym (order_flip _ _)))

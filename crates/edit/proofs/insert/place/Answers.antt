@@ -2,6 +2,8 @@
 use mathlib.Core.Path.{refl, sym, ◌∙◌}
 use borrow.Author.Tests.{eqb-true, eqb-false}
 use Rattle.search.proofs.Asked.{inside_asked}
+use Rattle.paper.proofs.Holding.{handed_on}
+use Rattle.edit.specs.Inserts.{place_by}
 use Rattle.edit.proofs.Testing.{tested-rules, class-asked, find-asked}
 use Rattle.edit.proofs.Inserted.{room_asked, place-range, place-lacks, place-outside, place_found}
 use Rattle.edit.proofs.insert.place.Goals as goal
@@ -38,6 +40,17 @@ has_room-room-requires c = room_asked _ _ _ c.requires _ c.read_u16-2.ensures _ 
 pub find_at-requires : goal.find_at-requires
 find_at-requires c = find-asked _ _ _ c.requires
 
+pub returns-in_err-found : goal.returns-in_err-found
+unfolding place_by
+returns-in_err-found c =
+    let fits = c.fits_width in
+    let inside = c.inside in
+    rw (handed_on c.from_residual.result _ c.from_residual.ensures.1)
+    (sym
+    (place_found _ _ _ _ c.requires _ fits.ensures c.if-not-fits_width.false _ c.read_u16.ensures _ refl
+    (eqb-true _ _ (sym c.within.ensures ∙ c.if-not-within.false)) _ c.suffix-suffix.ensures _ inside.ensures c.if-not-inside.false _ c.read_u16-2.ensures _ c.read_u16-3.ensures _
+    c.has_room-room.ensures (λ i. (c.type_inv.p i).fits) (λ i. (c.type_inv.key i).fits) _ (sym c.in_err-found.was ∙ c.find_at.ensures)))
+
 pub returns : goal.returns
 returns c =
     let fits = c.fits_width in
@@ -46,4 +59,4 @@ returns c =
     ∙ sym
     (place_found _ _ _ _ c.requires _ fits.ensures c.if-not-fits_width.false _ c.read_u16.ensures _ refl
     (eqb-true _ _ (sym c.within.ensures ∙ c.if-not-within.false)) _ c.suffix-suffix.ensures _ inside.ensures c.if-not-inside.false _ c.read_u16-2.ensures _ c.read_u16-3.ensures _
-    c.has_room-room.ensures (λ i. (c.type_inv.p i).fits) (λ i. (c.type_inv.key i).fits) _ c.find_at.ensures)
+    c.has_room-room.ensures (λ i. (c.type_inv.p i).fits) (λ i. (c.type_inv.key i).fits) _ (sym c.in_ok-found.was ∙ c.find_at.ensures))

@@ -1,14 +1,15 @@
--- Each arm answers the case of `place_by` that it is.
+-- Each way out is the case of `place_by` that it is.
 use Rattle.edit.specs.Inserts.{place_by}
 use Rattle.edit.proofs.insert.place_by.Goals as goal
 
-pub returns-in-Equal : goal.returns-in-Equal
+pub returns-in_default : goal.returns-in_default
 unfolding place_by
-returns-in-Equal c = rw c.in-Equal.is
+returns-in_default c = rw c.in_default.is
 
-pub returns-in-Smaller : goal.returns-in-Smaller
-returns-in-Smaller c = rw c.in-Smaller.is c.if_room.ensures
-
-pub returns-in-Refused : goal.returns-in-Refused
+pub returns-then-not-room : goal.returns-then-not-room
 unfolding place_by
-returns-in-Refused c = rw c.in-Refused.is
+returns-then-not-room c = rw (c.in-Smaller.is, c.if-not-room.true)
+
+pub returns : goal.returns
+unfolding place_by
+returns c = rw (c.in-Smaller.is, c.if-not-room.false)

@@ -1,5 +1,6 @@
 -- Each way out is one law: a value is too large, the key lacks the prefix or is not there, or its slot tested. That the search is refused is absurd.
-use mathlib.Core.Path.{sym, ◌∙◌}
+use mathlib.Core.Path.{sym, ap, ◌∙◌}
+use Rattle.std.specs.Prelude.{Ok}
 use Rattle.edit.proofs.Testing.{class-asked, find-asked}
 use Rattle.edit.proofs.Replaced.{held-range, held-range-new, held-lacks, held_none, held-no-search, held-asked, held_found}
 use Rattle.edit.proofs.set.find_held.Goals as goal
@@ -37,7 +38,7 @@ held_at-requires c =
     let new = c.fits_width-2 in
     (held-asked _ _ _ _ _ c.requires _ old.ensures c.if-not-fits_width.false _ new.ensures
     c.if-not-fits_width-2.false _ c.read_u16.ensures _ c.class.ensures c.if-class-ne1.false _ c.suffix.ensures
-    (λ i. (c.type_inv.p i).fits) (λ i. (c.type_inv.key i).fits) _ c.find_at.ensures _ c.in-Equal.is)
+    (λ i. (c.type_inv.p i).fits) (λ i. (c.type_inv.key i).fits) _ c.find_at.ensures _ (c.in_ok-found.was ∙ ap Ok c.in-Equal.is))
 
 pub returns-in-Equal : goal.returns-in-Equal
 returns-in-Equal c =
@@ -47,7 +48,7 @@ returns-in-Equal c =
     ∙ sym
     (held_found _ _ _ _ _ c.requires _ old.ensures c.if-not-fits_width.false _ new.ensures
     c.if-not-fits_width-2.false _ c.read_u16.ensures _ c.class.ensures c.if-class-ne1.false _ c.suffix.ensures
-    (λ i. (c.type_inv.p i).fits) (λ i. (c.type_inv.key i).fits) _ c.find_at.ensures _ c.in-Equal.is)
+    (λ i. (c.type_inv.p i).fits) (λ i. (c.type_inv.key i).fits) _ c.find_at.ensures _ (c.in_ok-found.was ∙ ap Ok c.in-Equal.is))
 
 pub returns-in-Smaller : goal.returns-in-Smaller
 returns-in-Smaller c =
@@ -56,13 +57,13 @@ returns-in-Smaller c =
     sym
     (held_none _ _ _ _ _ c.requires _ old.ensures c.if-not-fits_width.false _ new.ensures
     c.if-not-fits_width-2.false _ c.read_u16.ensures _ c.class.ensures c.if-class-ne1.false _ c.suffix.ensures
-    (λ i. (c.type_inv.p i).fits) (λ i. (c.type_inv.key i).fits) _ c.find_at.ensures _ c.in-Smaller.is)
+    (λ i. (c.type_inv.p i).fits) (λ i. (c.type_inv.key i).fits) _ c.find_at.ensures _ (c.in_ok-found.was ∙ ap Ok c.in-Smaller.is))
 
-pub returns-in-Refused : goal.returns-in-Refused
-returns-in-Refused c =
+pub returns-in_err-found : goal.returns-in_err-found
+returns-in_err-found c =
     let old = c.fits_width in
     let new = c.fits_width-2 in
     absurd
     (held-no-search _ _ _ _ _ c.requires _ old.ensures c.if-not-fits_width.false _ new.ensures
     c.if-not-fits_width-2.false _ c.read_u16.ensures _ c.class.ensures c.if-class-ne1.false _ c.suffix.ensures
-    (λ i. (c.type_inv.p i).fits) (λ i. (c.type_inv.key i).fits) _ c.find_at.ensures _ c.in-Refused.is)
+    (λ i. (c.type_inv.p i).fits) (λ i. (c.type_inv.key i).fits) _ c.find_at.ensures _ c.in_err-found.was)

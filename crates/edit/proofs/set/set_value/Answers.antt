@@ -1,21 +1,18 @@
 -- The page is fit and the half after the test goes on, or the call is refused as the page is.
 use mathlib.Core.Path.{sym, ◌∙◌}
-use Rattle.node.specs.Admit.{why_not}
+use Rattle.paper.proofs.Holding.{handed_on}
 use Rattle.edit.proofs.Testing.{tested}
 use Rattle.edit.proofs.Replaced.{set-refused, set-fitted}
 use Rattle.octets.proofs.Clauses.{named_value_p_after}
 use Rattle.edit.proofs.set.set_value.Goals as goal
 
-pub returns-in_default : goal.returns-in_default
-unfolding why_not
-returns-in_default c =
-    let told = c.in_default.is in
-    rw (c.why_not.ensures, told) (named_value_p_after (set-refused _ _ _ _ _ _ (sym c.admit_fit-a.ensures ∙ told)))
+pub returns-in_err-admit_fit : goal.returns-in_err-admit_fit
+returns-in_err-admit_fit c = rw (handed_on c.from_residual.result _ c.from_residual.ensures.1) (named_value_p_after (set-refused _ _ _ _ _ _ (sym c.admit_fit.ensures ∙ c.in_err-admit_fit.was)))
 
 pub set_fit-requires : goal.set_fit-requires
-set_fit-requires c = tested _ _ _ _ (sym c.admit_fit-a.ensures ∙ c.in-Is.is)
+set_fit-requires c = tested _ _ _ _ (sym c.admit_fit.ensures ∙ c.in_ok-admit_fit.was)
 
 pub returns : goal.returns
 returns c =
-    let told = sym c.admit_fit-a.ensures ∙ c.in-Is.is in
+    let told = sym c.admit_fit.ensures ∙ c.in_ok-admit_fit.was in
     record { value = c.set_fit.ensures.value ∙ (set-fitted _ _ _ _ _ _ told).0; p_after = c.set_fit.ensures.p_after ∙ (set-fitted _ _ _ _ _ _ told).1 }

@@ -1,6 +1,5 @@
 -- A cut buffer and a page that is refused are told at once; else the fold on a page that is fit is the call.
 use mathlib.Core.Path.{sym, ◌∙◌}
-use Rattle.node.specs.Admit.{why_not}
 use Rattle.filing.proofs.Folds.{standing, batch-cut, batch-refused, batch-fitted}
 use Rattle.octets.proofs.Clauses.{named_value_p_after}
 use Rattle.filing.proofs.batch.file_batch.Goals as goal
@@ -11,22 +10,19 @@ returns-then-not-holds_records c = let held = c.holds_records in named_value_p_a
 pub first_length-requires : goal.first_length-requires
 first_length-requires c = let held = c.holds_records in sym held.ensures ∙ c.if-not-holds_records.false
 
-pub returns-in_default : goal.returns-in_default
-unfolding why_not
-returns-in_default c =
-    let told = c.in_default.is in
+pub returns-in-Err : goal.returns-in-Err
+returns-in-Err c =
     let held = c.holds_records in
-    rw (c.why_not.ensures, told)
-    (named_value_p_after (batch-refused _ _ _ _ held.ensures c.if-not-holds_records.false _ c.first_length.ensures _
-    (sym c.admit_fit-a.ensures ∙ told)))
+    named_value_p_after (batch-refused _ _ _ _ held.ensures c.if-not-holds_records.false _ c.first_length.ensures _
+    (sym c.admit_fit.ensures ∙ c.in-Err.is))
 
 pub file_or_restore-requires : goal.file_or_restore-requires
 file_or_restore-requires c =
     let held = c.holds_records in
-    (standing _ _ _ _ (sym c.admit_fit-a.ensures ∙ c.in-Is.is), sym held.ensures ∙ c.if-not-holds_records.false)
+    (standing _ _ _ _ (sym c.admit_fit.ensures ∙ c.in_default.is), sym held.ensures ∙ c.if-not-holds_records.false)
 
 pub returns : goal.returns
 returns c =
     let held = c.holds_records in
     named_value_p_after (batch-fitted _ _ _ _ held.ensures c.if-not-holds_records.false _ c.first_length.ensures _
-    (sym c.admit_fit-a.ensures ∙ c.in-Is.is) _ c.file_or_restore.ensures.value _ c.file_or_restore.ensures.p_after)
+    (sym c.admit_fit.ensures ∙ c.in_default.is) _ c.file_or_restore.ensures.value _ c.file_or_restore.ensures.p_after)

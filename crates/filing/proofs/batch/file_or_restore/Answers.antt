@@ -12,15 +12,15 @@ slice_bounds-copy_in-end-3 c = sym (length-take-le 16384 c.args.p.now (omega (ar
 pub copy_in-requires : goal.copy_in-requires
 copy_in-requires c = omega (arith, c.requires.0.size, long 16384, length-take-le 16384 c.args.p.now (omega (arith, c.requires.0.size)))
 
-pub returns-then-not-is_filed : goal.returns-then-not-is_filed
-returns-then-not-is_filed c =
+pub returns-then-is_err : goal.returns-then-is_err
+returns-then-is_err c =
     let size = c.requires.0.size in record {
-      value = c.file_all-r.ensures.value;
-      p_after = left-restored _ _ c.is_filed.ensures _ _ _ c.if-not-is_filed.true (omega (arith, size)) _ _ (long 16384 ∙ sym size) 16384 (omega (arith, size)) c.copy_in.ensures _
-          c.copy_in-then-not-is_filed.ensures;
+      value = c.file_all-filed.ensures.value;
+      p_after = left-restored _ _ c.is_err.ensures.negation _ _ _ c.if-is_err.true (omega (arith, size)) _ _ (long 16384 ∙ sym size) 16384 (omega (arith, size)) c.copy_in.ensures _
+          c.copy_in-then-is_err.ensures;
     }
 
-pub returns-else-not-is_filed : goal.returns-else-not-is_filed
-returns-else-not-is_filed c =
-    let told = c.is_filed in
-    record { value = c.file_all-r.ensures.value; p_after = left-filed _ _ told.ensures _ _ _ c.if-not-is_filed.false c.file_all-r.ensures.p_after }
+pub returns-else-is_err : goal.returns-else-is_err
+returns-else-is_err c =
+    let told = c.is_err in
+    record { value = c.file_all-filed.ensures.value; p_after = left-filed _ _ told.ensures.negation _ _ _ c.if-is_err.false c.file_all-filed.ensures.p_after }

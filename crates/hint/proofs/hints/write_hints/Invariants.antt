@@ -1,13 +1,10 @@
 -- The loop keeps what is left to put: the hints from place i on. A turn is `flat-turn`.
 use mathlib.Core.Path.{◌≡◌}
-use Prim.Native.Nat.{◌+◌, ◌*◌, ◌-◌, ◌≤◌}
-use lib.ListN.{length, drop}
+use Prim.Native.Nat.{◌+◌, ◌*◌}
+use lib.ListN.{drop}
 use Rattle.octets.specs.Bytes.{put}
 use Rattle.paper.specs.Hints.{flat}
 use Rattle.hint.proofs.hints.write_hints.Given as goal
 
 abbrev pub invariant-loop-i : goal.invariant-loop-i
-invariant-loop-i l = (l.i ≤ 8) × (length l.hints ≡ 8) × (length l.p ≡ length l.initial.p) × (put l.initial.p 64 (flat l.hints) ≡ put l.p (64 + 4 * l.i) (flat (drop l.i l.hints)))
-
-abbrev pub decreases-loop-i : goal.decreases-loop-i
-decreases-loop-i l = 8 - l.i
+invariant-loop-i l = put l.initial.p 64 (flat l.hint-items) ≡ put l.p (64 + 4 * l.i) (flat (drop l.i l.hint-items))

@@ -1,34 +1,23 @@
--- One text after the other; the value is read at the width itself, which is at most eight.
-use native.Mathlib.Omega.{arith}
-use Rattle.paper.specs.Printed.{entry_line}
-use Rattle.listing.specs.Texts.{line_text}
-use Rattle.listing.proofs.Writing.{then, suffix-most, value_is}
+-- One text after the other.
+use Rattle.std.proofs.Common.{arith}
+use Rattle.view.specs.Shown.{shown}
+use Rattle.listing.proofs.Decimals.{length-decimal}
+use Rattle.listing.proofs.Writing.{adds_is, adds-then, entry-words}
 use Rattle.listing.proofs.lines.entry_line.Goals as goal
 
-pub put_key-c-requires : goal.put_key-c-requires
-put_key-c-requires c =
-    let e = suffix-most c.args.s.len _ _ c.requires.3 in
-    (c.requires.0, c.requires.2, omega arith, omega arith)
+pub decimal-requires : goal.decimal-requires
+decimal-requires c = omega (arith, length-decimal)
 
-pub put_number-d-requires : goal.put_number-d-requires
-put_number-d-requires c =
-    let e = suffix-most c.args.s.len _ _ c.requires.3 in
-    omega arith
+pub push-requires : goal.push-requires
+push-requires c = omega (arith, length-decimal)
 
-pub put_mark-requires : goal.put_mark-requires
-put_mark-requires c =
-    let e = suffix-most c.args.s.len _ _ c.requires.3 in
-    omega arith
+pub put_key-requires : goal.put_key-requires
+put_key-requires c = omega (arith, length-decimal)
+
+pub numbers-requires : goal.numbers-requires
+numbers-requires c = omega (arith, length-decimal)
 
 pub returns : goal.returns
-unfolding line_text entry_line
 returns c =
-    let e = suffix-most c.args.s.len _ _ c.requires.3 in
-    let v = value_is _ _ _ _ _ c.requires.1 c.value_at.ensures c.read_value-v.ensures in (
-      rw (← v)
-          (then _ _ _ _ _ _ _ _
-          (then _ _ _ _ _ _ _ _
-          (then _ _ _ _ _ _ _ _ c.put_decimal-a.ensures.0 (then _ _ _ _ _ _ _ _ c.put_mark-b.ensures c.put_key-c.ensures.0))
-          c.put_number-d.ensures.0) c.put_mark.ensures),
-      omega arith,
-    )
+    let front = adds-then _ _ _ _ _ c.decimal.ensures (adds-then _ _ _ _ _ c.push.ensures c.put_key.ensures.0) in
+    adds_is _ _ _ _ (entry-words c.args.i (shown c.args.key.now) c.args.value) (adds-then _ _ _ _ _ front c.numbers.ensures.0)

@@ -1,16 +1,8 @@
--- One text after the other.
-use native.Mathlib.Omega.{arith}
-use Rattle.paper.specs.Printed.{number_words}
+-- The word, and then the numbers.
 use Rattle.listing.specs.Texts.{space_text}
-use Rattle.listing.proofs.Writing.{then}
+use Rattle.listing.proofs.Writing.{adds-then}
 use Rattle.listing.proofs.lines.space_line.Goals as goal
 
 pub returns : goal.returns
-unfolding space_text number_words
-returns c =
-    let end = c.end_two.ensures in (
-      then _ _ _ _ _ _ _ _ c.put_word-a.ensures
-          (then _ _ _ _ _ _ _ _ c.put_number-b.ensures.0
-          (then _ _ _ _ _ _ _ _ c.put_number-c.ensures.0 (then _ _ _ _ _ _ _ _ c.put_number-d.ensures.0 end.0))),
-      omega arith,
-    )
+unfolding space_text
+returns c = adds-then _ _ _ _ _ c.word.ensures c.numbers.ensures.0

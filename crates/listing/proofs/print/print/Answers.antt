@@ -1,20 +1,25 @@
--- The text goes to a sink that begins here.
-use Rattle.std.proofs.Common.{subst, OnOk, OnErr, ◌≡◌}
-use Rattle.std.specs.Io.KnownBytes.{Appends}
+-- What is printed is all of the text, and what is summed shows nothing.
+use Rattle.std.proofs.Common.{◌∙◌, sym, rules}
+use Rattle.std.proofs.KnownBytes.{Appends-nil}
 use Rattle.paper.specs.Printed.{printed}
-use Rattle.listing.specs.Sums.{begun, shown, Stopped}
+use Rattle.listing.proofs.Telling.{mode-printed, mode-summed, shown_all, shown_none, told-printed}
+use Rattle.listing.proofs.Going.{done}
 use Rattle.listing.proofs.print.print.Goals as goal
 
+pub returns-in_err-print_input-in-Printed-clause-left : goal.returns-in_err-print_input-in-Printed-clause-left
+returns-in_err-print_input-in-Printed-clause-left g c =
+    let zero = mode-printed _ (sym c.in-Printed.is ∙ c.from.ensures) in
+    rw (shown_all c.args.mode (printed c.args.input.now) zero) (search rules)
+
+pub returns-in-Summed-clause-bytes : goal.returns-in-Summed-clause-bytes
+returns-in-Summed-clause-bytes g c =
+    let other = mode-summed _ (sym c.in-Summed.is ∙ c.from.ensures) in
+    done c.sum_up.result (rw (shown_none c.args.mode (printed c.args.input.now) other) (Appends-nil _))
+
+pub returns-clause-ok : goal.returns-clause-ok
+returns-clause-ok g c = told-printed _ _ (mode-printed _ (sym c.in-Printed.is ∙ c.from.ensures))
+
 pub returns-clause-bytes : goal.returns-clause-bytes
-unfolding begun
 returns-clause-bytes g c =
-    subst (λ s. OnOk c.print_input.result (Appends (g.W.Write.contents c.args.to.now) (g.W.Write.contents c.print_input.new.to) (shown s.mode (printed c.args.input.now)))) c.begin.ensures.0 c.print_input.ensures.bytes
-
-pub returns-clause-err : goal.returns-clause-err
-unfolding begun
-returns-clause-err g c = subst (λ s. OnErr c.print_input.result (s.mode ≡ 0)) c.begin.ensures.0 c.print_input.ensures.err
-
-pub returns-clause-left : goal.returns-clause-left
-unfolding begun
-returns-clause-left g c =
-    subst (λ s. OnErr c.print_input.result (Stopped (g.W.Write.contents c.args.to.now) (g.W.Write.contents c.print_input.new.to) (shown s.mode (printed c.args.input.now)))) c.begin.ensures.0 c.print_input.ensures.left
+    let zero = mode-printed _ (sym c.in-Printed.is ∙ c.from.ensures) in
+    rw (shown_all c.args.mode (printed c.args.input.now) zero) (search rules)

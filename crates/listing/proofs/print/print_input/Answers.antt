@@ -1,45 +1,31 @@
--- A refusal's line is the front of the buffer; an input that is not refused is a known width and a page.
-use Rattle.std.proofs.Common.{subst, IfOk, ◌≡◌}
-use native.Mathlib.Omega.{arith}
-use Rattle.listing.specs.Sums.{told}
-use Rattle.listing.proofs.Telling.{passed_ok, passed_bytes, passed_left}
-use Rattle.listing.proofs.Joined.{accepted, page-length, refused-text, page_is}
+-- A refusal's line is all that is told; an input that is not refused is a known width and a page.
+use Rattle.std.proofs.Common.{◌∙◌, ap, false}
+use Rattle.std.specs.Result.{result_unwrap_or}
+use Rattle.keys.specs.Choice.{pick}
+use Rattle.listing.proofs.Joined.{layout-given, fit-given, as_number}
+use Rattle.paper.specs.Printed.{refused_line}
+use Rattle.listing.proofs.Writing.{adds-first}
 use Rattle.listing.proofs.print.print_input.Goals as goal
 
-pub returns-then-r-gt0-clause-ok : goal.returns-then-r-gt0-clause-ok
-returns-then-r-gt0-clause-ok g c =
-    passed_ok c.emit.result _ _ _ (refused-text _ _ c.refusal-r.ensures _ _ _ c.if-r-gt0.true c.refused_line-end.ensures.0 (omega arith)) c.emit.ensures.ok
+pub returns-in-Ok-clause-ok : goal.returns-in-Ok-clause-ok
+returns-in-Ok-clause-ok g c = rw (← c.in-Ok.ensures.ok) c.print_page.ensures.ok
 
-pub returns-then-r-gt0-clause-bytes : goal.returns-then-r-gt0-clause-bytes
-returns-then-r-gt0-clause-bytes g c =
-    passed_bytes c.emit.result _ _ _ _ _ (refused-text _ _ c.refusal-r.ensures _ _ _ c.if-r-gt0.true c.refused_line-end.ensures.0 (omega arith)) c.emit.ensures.bytes
+pub returns-in-Ok-clause-left : goal.returns-in-Ok-clause-left
+returns-in-Ok-clause-left g c = rw (← c.in-Ok.ensures.ok) c.print_page.ensures.left
 
-pub bounds-input-0 : goal.bounds-input-0
-bounds-input-0 g c = let e = (accepted _ _ c.refusal-r.ensures c.if-r-gt0.false).0 in omega (arith, e)
+pub returns-in-Err-clause-ok : goal.returns-in-Err-clause-ok
+returns-in-Err-clause-ok g c =
+    let text = c.as_slice.ensures ∙ adds-first _ _ _ c.new-text.ensures.0 c.refused_line.ensures ∙ ap refused_line c.number.ensures ∙ c.in-Err.ensures.err in
+    rw (← text) c.take.ensures.ok
 
-pub slice_bounds-p-count : goal.slice_bounds-p-count
-slice_bounds-p-count g c = let e = (accepted _ _ c.refusal-r.ensures c.if-r-gt0.false).0 in omega (arith, e)
+pub returns-in-Err-clause-left : goal.returns-in-Err-clause-left
+returns-in-Err-clause-left g c =
+    let text = c.as_slice.ensures ∙ adds-first _ _ _ c.new-text.ensures.0 c.refused_line.ensures ∙ ap refused_line c.number.ensures ∙ c.in-Err.ensures.err in
+    rw (← text) c.take.ensures.left
 
-pub slice_bounds-p-start : goal.slice_bounds-p-start
-slice_bounds-p-start g c = let e = (accepted _ _ c.refusal-r.ensures c.if-r-gt0.false).0 in omega (arith, e)
-
-pub print_judged-requires : goal.print_judged-requires
-print_judged-requires g c =
-    let a = accepted _ _ c.refusal-r.ensures c.if-r-gt0.false in
-    (page-length c.args.input.now a.0, a.1, c.layout_verdict-layout.ensures, c.fit_verdict-fit.ensures, c.requires.1, c.requires.0)
-
-pub returns-clause-ok : goal.returns-clause-ok
-returns-clause-ok g c =
-    subst (λ l. IfOk c.print_judged.result (λ s. s ≡ told c.args.sink l)) (page_is _ _ c.refusal-r.ensures c.if-r-gt0.false) c.print_judged.ensures.ok
-
-pub returns-clause-bytes : goal.returns-clause-bytes
-returns-clause-bytes g c =
-    passed_bytes c.print_judged.result _ _ _ _ _ (page_is _ _ c.refusal-r.ensures c.if-r-gt0.false) c.print_judged.ensures.bytes
-
-pub returns-then-r-gt0-clause-left : goal.returns-then-r-gt0-clause-left
-returns-then-r-gt0-clause-left g c =
-    passed_left c.emit.result _ _ _ _ _ (refused-text _ _ c.refusal-r.ensures _ _ _ c.if-r-gt0.true c.refused_line-end.ensures.0 (omega arith)) c.emit.ensures.left
-
-pub returns-clause-left : goal.returns-clause-left
-returns-clause-left g c =
-    passed_left c.print_judged.result _ _ _ _ _ (page_is _ _ c.refusal-r.ensures c.if-r-gt0.false) c.print_judged.ensures.left
+pub print_page-requires : goal.print_page-requires
+print_page-requires g c =
+    let page = c.in-Ok.page in
+    let layout = c.unwrap_or-layout.ensures ∙ ap (λ v. result_unwrap_or v false) c.layout_verdict.ensures ∙ layout-given _ _ page.whole page.known in
+    let fit = c.unwrap_or-fit.ensures ∙ ap (λ v. result_unwrap_or v 0) c.fit_verdict.ensures ∙ fit-given _ _ page.whole page.known in
+    (as_number _ ∙ ap (λ b. pick b 1 0) layout, fit, c.new-text.ensures)

@@ -1,35 +1,36 @@
 -- The page's tests, then the slot's, then the length of its key against the buffer's; the bytes are those of `put_key`, or as they were.
 use mathlib.Core.Path.{sym, ◌∙◌}
 use native.Mathlib.Omega.{arith}
-use Rattle.node.specs.Admit.{why_no_slot}
 use Rattle.node.proofs.Entries.{open-refused}
 use Rattle.node.proofs.Copies.{size-least, prefix-most, suffix_within, copy-short, copy_done, copy_shut}
 use Rattle.octets.proofs.Clauses.{named_value_out_after}
+use Rattle.paper.specs.Refusals.{refusal_of}
+use Rattle.paper.proofs.Holding.{handed_on}
 use Rattle.node.proofs.key.copy_key.Goals as goal
 
-pub returns-then-not-admits : goal.returns-then-not-admits
-returns-then-not-admits c = rw c.why_refused.ensures (named_value_out_after (copy_shut _ _ _ _ _ (open-refused _ _ _ (sym c.admits.ensures ∙ c.if-not-admits.true))))
+pub returns-in_err-admit : goal.returns-in_err-admit
+returns-in_err-admit c = rw (handed_on c.from_residual.result _ c.from_residual.ensures.1) (named_value_out_after (copy_shut _ _ _ _ _ (open-refused _ _ _ _ (sym c.admit.ensures ∙ c.in_err-admit.was))))
 
-pub open_entry-v-requires : goal.open_entry-v-requires
-open_entry-v-requires c = sym c.admits.ensures ∙ c.if-not-admits.false
+pub open_entry-read-requires : goal.open_entry-read-requires
+open_entry-read-requires c = sym c.admit.ensures ∙ c.in_ok-admit.was
 
 pub returns-in_default : goal.returns-in_default
-unfolding why_no_slot
+unfolding refusal_of
 returns-in_default c =
     let told = c.in_default.is in
-    rw (c.why_no_slot.ensures, told) (named_value_out_after (copy_shut _ _ _ _ _ (sym c.open_entry-v.ensures ∙ told)))
+    rw (c.refusal_of.ensures, told) (named_value_out_after (copy_shut _ _ _ _ _ (sym c.open_entry-read.ensures ∙ told)))
 
 pub read_u16-prefix_len-requires : goal.read_u16-prefix_len-requires
 read_u16-prefix_len-requires c =
-    let l = size-least _ _ _ _ (sym c.open_entry-v.ensures ∙ c.in-Is.is) in
+    let l = size-least _ _ _ _ (sym c.open_entry-read.ensures ∙ c.in-Ok.is) in
     omega arith
 
 pub returns-then-out-n : goal.returns-then-out-n
-returns-then-out-n c = named_value_out_after (copy-short _ _ _ _ (sym c.open_entry-v.ensures ∙ c.in-Is.is) _ c.read_u16-prefix_len.ensures _ _ c.key_len-n.ensures c.if-out-n.true)
+returns-then-out-n c = named_value_out_after (copy-short _ _ _ _ (sym c.open_entry-read.ensures ∙ c.in-Ok.is) _ c.read_u16-prefix_len.ensures _ _ c.key_len-n.ensures c.if-out-n.true)
 
 pub put_key-requires : goal.put_key-requires
 put_key-requires c =
-    let e = sym c.open_entry-v.ensures ∙ c.in-Is.is in (
+    let e = sym c.open_entry-read.ensures ∙ c.in-Ok.is in (
       size-least _ _ _ _ e,
       prefix-most _ _ _ _ e _ c.read_u16-prefix_len.ensures,
       rw (← c.key_len-n.ensures) c.if-out-n.false,
@@ -39,4 +40,4 @@ put_key-requires c =
 pub returns : goal.returns
 returns c =
     rw c.put_key.ensures
-    (named_value_out_after (copy_done _ _ _ _ (sym c.open_entry-v.ensures ∙ c.in-Is.is) _ c.read_u16-prefix_len.ensures _ _ c.key_len-n.ensures c.if-out-n.false))
+    (named_value_out_after (copy_done _ _ _ _ (sym c.open_entry-read.ensures ∙ c.in-Ok.is) _ c.read_u16-prefix_len.ensures _ _ c.key_len-n.ensures c.if-out-n.false))

@@ -7,6 +7,3 @@ use Rattle.octets.proofs.value.read_narrow.Given as goal
 
 abbrev pub invariant-loop-i : goal.invariant-loop-i
 invariant-loop-i l = (l.i ≤ l.width) × (l.v ≡ le (l.width - l.i) l.p (l.at + l.i))
-
-abbrev pub decreases-loop-i : goal.decreases-loop-i
-decreases-loop-i l = l.i

@@ -1,12 +1,8 @@
--- The loop keeps what is left to put: the bytes of the running quotient from place j on. A turn is `write_turn`. One proof for every width.
+-- The loop keeps what is left to put: the bytes of the running quotient from the place of the next byte on. A turn is `write_turn`.
 use mathlib.Core.Path.{◌≡◌}
-use Prim.Native.Nat.{◌+◌, ◌-◌, ◌≤◌}
-use lib.ListN.{length}
+use Prim.Native.Nat.{◌-◌}
 use Rattle.octets.specs.Bytes.{bytes, put}
 use Rattle.octets.proofs.value.write_bytes.Given as goal
 
-abbrev pub invariant-loop-j : goal.invariant-loop-j
-invariant-loop-j l = (l.j ≤ l.width) × (length l.p ≡ length l.initial.p) × (put l.initial.p l.at (bytes l.width l.v) ≡ put l.p (l.at + l.j) (bytes (l.width - l.j) l.rest))
-
-abbrev pub decreases-loop-j : goal.decreases-loop-j
-decreases-loop-j l = l.width - l.j
+abbrev pub invariant-loop-byte : goal.invariant-loop-byte
+invariant-loop-byte l = put l.initial.byte-items 0 (bytes l.width l.v) ≡ put l.byte-items l.byte-index (bytes (l.width - l.byte-index) l.rest)

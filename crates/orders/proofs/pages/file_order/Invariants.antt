@@ -1,9 +1,6 @@
 -- The loop keeps that no more records are filed than were tried.
-use Rattle.std.proofs.Common.{◌-◌, ◌≤◌}
+use Rattle.std.proofs.Common.{◌≤◌}
 use Rattle.orders.proofs.pages.file_order.Given as goal
 
 abbrev pub invariant-loop-i : goal.invariant-loop-i
-invariant-loop-i l = (l.i ≤ 240) × (l.filed ≤ l.i)
-
-abbrev pub decreases-loop-i : goal.decreases-loop-i
-decreases-loop-i l = 240 - l.i
+invariant-loop-i l = l.filed ≤ l.i

@@ -9,14 +9,14 @@ returns-then-class-eq0 c = rw (sign_before _ c.args.o c.if-class-eq0.true)
 pub returns-then-class-eq2 : goal.returns-then-class-eq2
 returns-then-class-eq2 c = rw (sign_after _ c.args.o c.if-class-eq0.false c.if-class-eq2.true)
 
-pub returns-in-Below : goal.returns-in-Below
+pub returns-in-Less : goal.returns-in-Less
 unfolding sign_of
-returns-in-Below c = rw (sign_within _ c.args.o c.if-class-eq0.false c.if-class-eq2.false, c.in-Below.is)
+returns-in-Less c = rw (sign_within _ c.args.o c.if-class-eq0.false c.if-class-eq2.false, c.in-Less.is)
 
-pub returns-in-Same : goal.returns-in-Same
+pub returns-in-Equal : goal.returns-in-Equal
 unfolding sign_of
-returns-in-Same c = rw (sign_within _ c.args.o c.if-class-eq0.false c.if-class-eq2.false, c.in-Same.is)
+returns-in-Equal c = rw (sign_within _ c.args.o c.if-class-eq0.false c.if-class-eq2.false, c.in-Equal.is)
 
-pub returns-in-Above : goal.returns-in-Above
+pub returns-in-Greater : goal.returns-in-Greater
 unfolding sign_of
-returns-in-Above c = rw (sign_within _ c.args.o c.if-class-eq0.false c.if-class-eq2.false, c.in-Above.is)
+returns-in-Greater c = rw (sign_within _ c.args.o c.if-class-eq0.false c.if-class-eq2.false, c.in-Greater.is)

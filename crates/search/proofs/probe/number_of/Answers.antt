@@ -2,14 +2,14 @@
 use Rattle.search.specs.Probe.{class_number}
 use Rattle.search.proofs.probe.number_of.Goals as goal
 
-pub returns-in-Below : goal.returns-in-Below
+pub returns-in-Less : goal.returns-in-Less
 unfolding class_number
-returns-in-Below c = rw c.in-Below.is
+returns-in-Less c = rw c.in-Less.is
 
-pub returns-in-Same : goal.returns-in-Same
+pub returns-in-Equal : goal.returns-in-Equal
 unfolding class_number
-returns-in-Same c = rw c.in-Same.is
+returns-in-Equal c = rw c.in-Equal.is
 
-pub returns-in-Above : goal.returns-in-Above
+pub returns-in-Greater : goal.returns-in-Greater
 unfolding class_number
-returns-in-Above c = rw c.in-Above.is
+returns-in-Greater c = rw c.in-Greater.is

@@ -1,20 +1,20 @@
 -- Each answer is the case of `tested` for what the slot met.
 use Rattle.paper.specs.Searches.{tested}
-use Rattle.search.specs.Slot.{why_not_met}
+use Rattle.paper.specs.Refusals.{refusal_of}
 use Rattle.search.proofs.seek.test_slot.Goals as goal
 
 pub returns-in_default : goal.returns-in_default
-unfolding tested why_not_met
-returns-in_default c = let told = c.in_default.is in rw (c.why_not_met.ensures, ← c.meet_alone-m.ensures, told)
+unfolding tested refusal_of
+returns-in_default c = let told = c.in_default.is in rw (c.refusal_of.ensures, ← c.meet_alone-met.ensures, told)
 
-pub returns-in-Below : goal.returns-in-Below
+pub returns-in-Less : goal.returns-in-Less
 unfolding tested
-returns-in-Below c = rw (← c.meet_alone-m.ensures, c.in-Is.is, c.in-Below.is)
+returns-in-Less c = rw (← c.meet_alone-met.ensures, c.in-Ok.is, c.in-Less.is)
 
-pub returns-in-Same : goal.returns-in-Same
+pub returns-in-Equal : goal.returns-in-Equal
 unfolding tested
-returns-in-Same c = rw (← c.meet_alone-m.ensures, c.in-Is.is, c.in-Same.is)
+returns-in-Equal c = rw (← c.meet_alone-met.ensures, c.in-Ok.is, c.in-Equal.is)
 
-pub returns-in-Above : goal.returns-in-Above
+pub returns-in-Greater : goal.returns-in-Greater
 unfolding tested
-returns-in-Above c = rw (← c.meet_alone-m.ensures, c.in-Is.is, c.in-Above.is)
+returns-in-Greater c = rw (← c.meet_alone-met.ensures, c.in-Ok.is, c.in-Greater.is)

@@ -1,8 +1,8 @@
 -- The slot was read at its place; its payload lies within, or the answer is 14.
 use mathlib.Core.Path.{sym, ap, ◌∙◌}
-use Rattle.paper.specs.declared.answers.Met.TheVariants.{Is as Met-as-Is}
 use Rattle.search.proofs.Meets.{met-out, met-in, met_room}
 use Rattle.search.proofs.slot.meet_at.Goals as goal
+use Rattle.std.specs.Prelude.{Ok}
 
 pub returns-then-not-payload_within : goal.returns-then-not-payload_within
 returns-then-not-payload_within c =
@@ -17,5 +17,5 @@ meets-requires c =
 pub returns : goal.returns
 returns c =
     let test = c.payload_within in
-    ap Met-as-Is c.meets.ensures
+    ap Ok c.meets.ensures
     ∙ sym (met-in _ _ _ _ _ _ c.read_slot-s.ensures (sym test.ensures ∙ c.if-not-payload_within.false))

@@ -10,4 +10,4 @@ pub returns-in_default : goal.returns-in_default
 returns-in_default c = c.compare.ensures ∙ sym (meets-open _ _ _ _ c.requires.0 _ (sym c.rank.ensures ∙ c.in_default.is) c.long_suffix.ensures)
 
 pub returns : goal.returns
-returns c = sym (meets-told _ _ _ _ c.requires.0 _ (sym c.rank.ensures ∙ c.in-Told.is))
+returns c = sym (meets-told _ _ _ _ c.requires.0 _ (sym c.rank.ensures ∙ c.in-Some.is))

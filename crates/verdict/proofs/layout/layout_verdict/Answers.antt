@@ -13,19 +13,6 @@ pub returns-then-not-known_width : goal.returns-then-not-known_width
 unfolding layout_verdict judge
 returns-then-not-known_width c = rw (eq-eqb _ _ c.if-p-ne16384.false, ← c.known_width.ensures, c.if-not-known_width.true)
 
-pub returns-then-layout_right : goal.returns-then-layout_right
-unfolding layout_verdict judge
-returns-then-layout_right c =
-    rw (
-      eq-eqb _ _ c.if-p-ne16384.false,
-      ← c.known_width.ensures,
-      c.if-not-known_width.false,
-      layout_is,
-      ← c.read_header-h.ensures,
-      ← c.layout_right.ensures,
-      c.if-layout_right.true,
-    )
-
 pub returns : goal.returns
 unfolding layout_verdict judge
 returns c =
@@ -34,7 +21,6 @@ returns c =
       ← c.known_width.ensures,
       c.if-not-known_width.false,
       layout_is,
-      ← c.read_header-h.ensures,
+      ← c.read_header.ensures,
       ← c.layout_right.ensures,
-      c.if-layout_right.false,
     )

@@ -21,7 +21,7 @@ pub loop-i-preserved : goal.loop-i-preserved
 loop-i-preserved c =
     let args = c.args in
     let turn = c.loop-i in
-    (omega arith, held_more args.width args.p.now args.h _ _ c.loop-i-test.true turn.invariant.1 (sym c.visit_slot.ensures ∙ c.in-Is.is))
+    (omega arith, held_more args.width args.p.now args.h _ _ c.loop-i-test.true turn.invariant.1 (sym c.visit_slot.ensures ∙ c.in-Ok.is))
 
 pub returns : goal.returns
 returns c = sym (held_all _ _ _ _ c.loop-i-test.false c.loop-i.invariant.1)

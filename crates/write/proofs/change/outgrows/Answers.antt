@@ -1,12 +1,12 @@
 -- Each way out is a side of the definition's test.
-use borrow.Author.Tests.{le-leb, lt-leb}
+use borrow.Author.Tests.{le-leb, lt-leb, le-ltb}
 use Rattle.paper.specs.Edits.{outgrows}
 use Rattle.write.proofs.change.outgrows.Goals as goal
 
-pub returns-then-suffix-le4 : goal.returns-then-suffix-le4
+pub returns-then-suffix-gt4 : goal.returns-then-suffix-gt4
 unfolding outgrows
-returns-then-suffix-le4 c = rw (le-leb _ _ c.if-suffix-le4.true)
+returns-then-suffix-gt4 c = rw (lt-leb _ _ c.if-suffix-gt4.true)
 
-pub returns : goal.returns
+pub returns-else-suffix-gt4 : goal.returns-else-suffix-gt4
 unfolding outgrows
-returns c = rw (lt-leb _ _ c.if-suffix-le4.false)
+returns-else-suffix-gt4 c = rw (le-leb _ _ c.if-suffix-gt4.false, le-ltb _ _ c.if-suffix-gt4.false)

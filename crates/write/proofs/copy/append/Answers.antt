@@ -1,21 +1,24 @@
 -- The source's prefix and suffix without the destination's prefix are the two pieces.
 use native.Mathlib.Omega.{arith}
-use Rattle.write.proofs.Recuts.{append-room, append-done}
-use Rattle.write.proofs.Rekeys.{value-within}
-use Rattle.octets.proofs.Clauses.{named_skip_le_len_room, named_value_p_after}
+use Rattle.write.proofs.Recuts.{entry-within, entry-value, cut-is, cut-room}
 use Rattle.write.proofs.copy.append.Goals as goal
 
 pub read_value-value-requires : goal.read_value-value-requires
-read_value-value-requires c =
-    omega (
-      arith,
-      c.requires.source.0.size,
-      value-within c.args.width c.args.q.now c.args.j c.read_slot-s.result c.value_at.result c.read_slot-s.ensures c.value_at.ensures
-          (c.requires.source.0.rows c.args.j c.requires.source.1),
-    )
+read_value-value-requires c = rw c.value_at.ensures (entry-within _ _ _ _ c.args.source.now.readable _ c.read_slot-s.ensures c.requires.there)
 
-pub file_slot-requires : goal.file_slot-requires
-file_slot-requires c = named_skip_le_len_room (append-room c.args.width c.args.p.now c.args.h c.args.q.now _ c.args.j c.requires.source.0 c.requires.source.1 _ c.read_slot-s.ensures _ c.prefix-prefix.ensures _ _ c.least-cut.ensures c.least-skip.ensures c.requires.room)
+pub suffix-requires : goal.suffix-requires
+suffix-requires c =
+    let within = entry-within _ _ _ _ c.args.source.now.readable _ c.read_slot-s.ensures c.requires.there in
+    (omega arith, c.head_bytes-four.ensures)
+
+pub cut-cut-requires : goal.cut-cut-requires
+cut-cut-requires c = cut-room _ _ _ _ c.args.source.now.readable _ c.read_slot-s.ensures c.args.h _ _ c.prefix.ensures c.suffix.ensures _ c.requires.room
+
+pub file-requires : goal.file-requires
+file-requires c = rw (cut-is _ _ _ _ c.args.source.now.readable _ c.read_slot-s.ensures c.args.h _ _ c.prefix.ensures c.suffix.ensures _ c.cut-cut.ensures) c.requires.room
 
 pub returns : goal.returns
-returns c = named_value_p_after (append-done c.args.width c.args.p.now c.args.h c.args.q.now _ c.args.j c.requires.source.0 c.requires.source.1 _ c.read_slot-s.ensures _ c.prefix-prefix.ensures _ _ c.least-cut.ensures c.least-skip.ensures _ _ c.value_at.ensures c.read_value-value.ensures _ _ c.file_slot.ensures.value c.file_slot.ensures.p_after)
+returns c =
+    let key = cut-is _ _ _ _ c.args.source.now.readable _ c.read_slot-s.ensures c.args.h _ _ c.prefix.ensures c.suffix.ensures _ c.cut-cut.ensures in
+    let value = entry-value _ _ _ _ c.args.source.now.readable _ c.read_slot-s.ensures _ _ c.value_at.ensures c.read_value-value.ensures in
+    record { value = rw key at c.file.ensures.value; p_after = rw (key, value) at c.file.ensures.p_after }

@@ -4,9 +4,6 @@ use Rattle.paper.specs.Edits.{inserted}
 use Rattle.write.proofs.Filings.{room_read, filed-slots, file-header, refresh_by}
 use Rattle.write.proofs.insert.insert_at.Goals as goal
 
-pub file_at-filed-requires : goal.file_at-filed-requires
-file_at-filed-requires c = room_read _ _ _ _ _ c.read_header-h.ensures c.requires
-
 pub refresh-requires : goal.refresh-requires
 refresh-requires c =
     omega (

@@ -4,4 +4,4 @@ use Rattle.write.proofs.slot.slot_for.Goals as goal
 
 pub returns : goal.returns
 unfolding slot_for
-returns c = rw c.head_int.ensures
+returns c = cc

@@ -1,0 +1,5 @@
+-- Each call has a digit less.
+use Rattle.listing.proofs.text.Text.+decimal.Given as goal
+
+abbrev pub decreases-decimal : goal.decreases-decimal
+decreases-decimal l = l.n

@@ -1,0 +1,13 @@
+-- The test on the digit is that of the definition.
+use Rattle.std.proofs.Common.{arith}
+use borrow.Author.Tests.{lt-ltb, le-ltb}
+use Rattle.paper.specs.Printed.{hex_digit}
+use Rattle.listing.proofs.text.digit.Goals as goal
+
+pub returns-then-d-lt10 : goal.returns-then-d-lt10
+unfolding hex_digit
+returns-then-d-lt10 c = rw (lt-ltb _ _ c.if-d-lt10.true)
+
+pub returns-else-d-lt10 : goal.returns-else-d-lt10
+unfolding hex_digit
+returns-else-d-lt10 c = rw (le-ltb _ _ c.if-d-lt10.false) (omega arith)

@@ -1,0 +1,115 @@
+// A text in the making, in a buffer of a fixed size.
+ghost use Rattle.std.specs.Prelude.{◌≡◌, ℕ, [], ◌∷◌, ◌++◌, ◌+◌, ◌*◌, ◌≤◌, ◌<◌, length};
+ghost use Rattle.listing.specs.Line.{Adds, Fresh};
+ghost use Rattle.paper.specs.Printed.{decimal, number_words, hex_digit, hex_bytes};
+
+use std::marker::Model;
+
+// A contract sees its bytes, and how many there is room for.
+#[derive(Drop)]
+pub(crate) struct Text<'a> {
+    bytes: &'a mut [u8],
+    len: usize,
+}
+
+impl<'a> Model for Text<'a> {
+    ghost use Rattle.std.specs.Prelude.{length, take, ◌-◌, ◌≤◌};
+    ghost use Rattle.listing.specs.Line.{Line};
+
+    ghost Value = { Line };
+
+    ghost view = { λ t. record { text = take t.len t.bytes.now; room = length t.bytes.now - t.len } };
+
+    ghost invariant = { λ t. t.len ≤ length t.bytes.now };
+}
+
+impl<'a> Text<'a> {
+    // No text.
+    pub(crate) fn new(bytes: &'a mut [u8]) -> Self
+        ensures { Fresh result (length bytes.old) }
+    {
+        Text { bytes, len: 0 }
+    }
+
+    // Lets the text go.
+    pub(crate) fn clear(&mut self)
+        ensures { Fresh self.new (length self.old.text + self.old.room) }
+    {
+        self.len = 0;
+    }
+
+    // The text.
+    pub(crate) fn as_slice(&self) -> &[u8]
+        ensures { result.now ≡ self.now.text }
+    {
+        &self.bytes[..self.len]
+    }
+
+    // How many bytes more there is room for.
+    pub(crate) fn room(&self) -> usize
+        ensures { result ≡ self.now.room }
+    {
+        self.bytes.len() - self.len
+    }
+
+    // One character more.
+    pub(crate) fn push(&mut self, mark: u8)
+        requires { 0 < self.old.room }
+        ensures { Adds self.old (mark ∷ []) self.new }
+    {
+        self.bytes[self.len] = mark;
+        self.len += 1;
+    }
+
+    // A word more.
+    pub(crate) fn word(&mut self, word: &[u8])
+        requires { length word.now ≤ self.old.room }
+        ensures { Adds self.old word.now self.new }
+    {
+        for &mark in word {
+            self.push(mark);
+        }
+    }
+
+    // A number more, in decimal.
+    pub(crate) fn decimal(&mut self, n: u64)
+        requires { length (decimal n) ≤ self.old.room }
+        ensures { Adds self.old (decimal n) self.new }
+    {
+        if 10 <= n {
+            self.decimal(n / 10);
+        }
+        self.push((48 + n % 10) as u8);
+    }
+
+    // Bytes more, in hex: two digits a byte.
+    pub(crate) fn hex(&mut self, bytes: &[u8])
+        requires { 2 * length bytes.now ≤ self.old.room }
+        ensures { Adds self.old (hex_bytes bytes.now) self.new }
+    {
+        for &b in bytes {
+            self.push(digit(b / 16));
+            self.push(digit(b % 16));
+        }
+    }
+
+    // Numbers, a blank before each, and the end of the line.
+    pub(crate) fn numbers(&mut self, numbers: &[u64])
+        requires { 21 * length numbers.now + 1 ≤ self.old.room }
+        ensures { Adds self.old (number_words numbers.now) self.new × (self.old.room ≤ self.new.room + (21 * length numbers.now + 1)) }
+    {
+        for &n in numbers {
+            self.push(b' ');
+            self.decimal(n);
+        }
+        self.push(b'\n');
+    }
+}
+
+// The hex digit of a number below sixteen.
+fn digit(d: u8) -> u8
+    requires { d < 16 }
+    ensures { result ≡ hex_digit d }
+{
+    if d < 10 { b'0' + d } else { b'a' + d - 10 }
+}
