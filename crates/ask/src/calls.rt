@@ -1,171 +1,179 @@
-// The calls: each is carried out and its answer written. All answer whether the program goes on, or why it could not write.
-ghost use Rattle.std.specs.Prelude.{◌≡◌, ◌≤◌, length};
+// The calls: each is carried out and its answer made a reply.
+ghost use Rattle.std.specs.Prelude.{◌≤◌, length};
 
-use crate::wire::Request;
-use crate::{edits, registers, wire};
+use crate::call::Call;
+use crate::registers::Registers;
+use crate::run::{ROOM, Run};
+use crate::wire;
+use crate::wire::{Broken, Failure, Reply, Request};
 use child::lookup;
 use dorgumanna::answer;
+use edit::{begin, change, copy, insert, set};
+use filing::batch;
+use filing::batch::NotFiled;
 use node::{key, space, trailing};
-use octets::number;
 use paper::answers::Space;
+use paper::refusal::Refusal;
 use search::{bound, compare, find};
-use std::io;
-use std::io::Write;
+use std::io::Read;
 use verdict::{fit, layout};
 use view::entry;
 
-// Answers a request whose runs stand at the front of `first` and `second`.
-pub(crate) fn answer<W: Write>(
-    output: &mut W,
-    store: &mut [u8],
-    first: &[u8],
-    second: &mut [u8],
-    q: Request,
-) -> io::Result<bool>
-    requires { length store.old ≡ 328016 }
-{
-    if q.call == 16 {
-        let n = space::need(q.width, q.a as usize, wire::front(first, q.n));
-        return wire::tell(output, answer::tell(n));
-    }
-    if q.call == 17 {
-        let f = space::forecast(wire::front(first, q.n), wire::front(second, q.m));
-        return wire::tell(output, answer::tell(f));
-    }
-    if 3 < q.page {
-        return wire::broken(output);
-    }
-    on_register(output, store, q.page as usize, first, second, q)
+// The registers, and the two runs of the request that is answered.
+#[derive(Drop)]
+pub(crate) struct Session {
+    registers: Registers,
+    first: Run,
+    second: Run,
 }
 
-// Answers a call on the page in register `r`.
-fn on_register<W: Write>(
-    output: &mut W,
-    store: &mut [u8],
-    r: usize,
-    first: &[u8],
-    second: &mut [u8],
-    q: Request,
-) -> io::Result<bool>
-    requires { (length store.old ≡ 328016) × (r ≤ 3) }
-{
-    if q.call == 0 {
-        registers::load(store, r, wire::front(first, q.n));
-        return wire::pair(output, 0, 0);
+impl Session {
+    // Registers and runs of no bytes.
+    pub(crate) fn new() -> Self {
+        Session {
+            registers: Registers::new(),
+            first: Run::new(),
+            second: Run::new(),
+        }
     }
-    if ((2 <= q.call) & (q.call <= 6)) | (q.call == 20) {
-        return edits::edit(output, store, r, first, second, q);
+
+    // Reads the next request with its runs; none where the input ends.
+    pub(crate) fn receive<R: Read>(&mut self, input: &mut R) -> Result<Option<Request>, Failure> {
+        wire::receive(input, &mut self.first, &mut self.second)
     }
-    on_page(
-        output,
-        registers::content(store, r),
-        wire::front(first, q.n),
-        second,
-        q,
-    )
+
+    // Answers the request that was received last.
+    pub(crate) fn answer(&mut self, q: Request) -> Result<Reply<'_>, Broken> {
+        let Session {
+            registers,
+            first,
+            second,
+        } = self;
+        let first = first.content();
+        let (page, width, i) = (q.page, q.width, q.a as usize);
+        Ok(match q.call {
+            Call::Load => {
+                registers.load(page?, first);
+                Reply::done(0)
+            }
+            Call::Dump => Reply::done(0).with(registers.page(page?)),
+            Call::Begin => begin(registers.page_mut(page?), first, second.content(), q)?,
+            Call::Insert => insert::insert(registers.page_mut(page?), width, first, q.a).into(),
+            Call::SetValue => set::set_value(
+                registers.page_mut(page?),
+                width,
+                first,
+                q.a,
+                q.b,
+            ).into(),
+            Call::ChangeKey => change::change_key(
+                registers.page_mut(page?),
+                width,
+                i,
+                first,
+            ).into(),
+            Call::RunCopy => copy_run(registers, second, q)?,
+            Call::Find => find::find(registers.page(page?), width, first).into(),
+            Call::LowerBound => bound::lower_bound(registers.page(page?), width, first).into(),
+            Call::UpperBound => bound::upper_bound(registers.page(page?), width, first).into(),
+            Call::Compare => compare::compare_slot(registers.page(page?), width, i, first).into(),
+            Call::Child => lookup::child(registers.page(page?), first).into(),
+            Call::Entry => show_entry(registers.page(page?), width, i, second.room()),
+            Call::KeyCopy => copy_key(registers.page(page?), width, i, second.content_mut()),
+            Call::TrailingId => trailing::trailing_id(registers.page(page?), width, i).into(),
+            Call::Space => show_space(registers.page(page?), second),
+            Call::Need => space::need(width, i, first).into(),
+            Call::Forecast => space::forecast(first, second.content()).into(),
+            Call::Layout => layout::layout_verdict(registers.page(page?), width).into(),
+            Call::Fit => fit::fit_verdict(registers.page(page?), width).into(),
+            Call::Batch => file_batch(registers.page_mut(page?), width, first)?,
+            Call::Digest => Reply::done(digest(registers.page(page?))),
+        })
+    }
 }
 
-// Answers a call that reads a page.
-fn on_page<W: Write>(
-    output: &mut W,
-    page: &[u8],
-    key: &[u8],
-    second: &mut [u8],
-    q: Request,
-) -> io::Result<bool> {
-    if q.call == 12 {
-        return entry_of(output, page, q, second);
-    }
-    if q.call == 13 {
-        return copy_of(output, page, q, second);
-    }
-    if q.call == 1 {
-        return wire::reply(output, 0, 0, 0, page);
-    }
-    if q.call == 14 {
-        let t = trailing::trailing_id(page, q.width, q.a as usize);
-        return wire::tell(output, answer::tell(t));
-    }
-    if q.call == 15 {
-        return space_of(output, page);
-    }
-    if q.call == 18 {
-        return wire::tell(output, answer::tell(layout::layout_verdict(page, q.width)));
-    }
-    if q.call == 19 {
-        return wire::tell(output, answer::tell(fit::fit_verdict(page, q.width)));
-    }
-    if q.call == 21 {
-        return wire::pair(output, digest(page), 0);
-    }
-    on_key(output, page, key, q)
+// Begin: a height above 65,535 and a flag above 1 cannot be carried to the call.
+fn begin<'a>(page: &mut [u8], lower: &[u8], upper: &[u8], q: Request) -> Result<Reply<'a>, Broken> {
+    let height = u16::try_from(q.a).or(Err(Broken))?;
+    let hinted = match q.width {
+        0 => false,
+        1 => true,
+        _ => return Err(Broken),
+    };
+    Ok(begin::begin(page, height, q.b, lower, q.c, upper, hinted).into())
 }
 
-// Answers a call that holds a key against a page.
-fn on_key<W: Write>(output: &mut W, page: &[u8], key: &[u8], q: Request) -> io::Result<bool> {
-    if q.call == 7 {
-        return wire::tell(output, answer::tell(find::find(page, q.width, key)));
+// Run copy: the source goes through `room`, so that the destination alone is lent from the registers. Two registers that
+// are one cannot be carried to the call.
+fn copy_run<'a>(
+    registers: &mut Registers,
+    room: &mut Run,
+    q: Request,
+) -> Result<Reply<'a>, Broken> {
+    let to = q.page?;
+    let from = q.other?;
+    if from == to {
+        return Err(Broken);
     }
-    if q.call == 8 {
-        return wire::tell(output, answer::tell(bound::lower_bound(page, q.width, key)));
+    room.load(registers.page(from));
+    let page = registers.page_mut(to);
+    Ok(copy::copy_run(page, room.content(), q.width, q.a as usize, q.b as usize).into())
+}
+
+// Batch: a buffer that ends inside a record cannot be carried to the call.
+fn file_batch<'a>(page: &mut [u8], width: u8, records: &[u8]) -> Result<Reply<'a>, Broken> {
+    match batch::file_batch(page, width, records) {
+        Err(NotFiled::Cut) => Err(Broken),
+        filed => Ok(answer::batched(filed).into()),
     }
-    if q.call == 9 {
-        return wire::tell(output, answer::tell(bound::upper_bound(page, q.width, key)));
-    }
-    if q.call == 10 {
-        let c = compare::compare_slot(page, q.width, q.a as usize, key);
-        return wire::tell(output, answer::tell(c));
-    }
-    if q.call == 11 {
-        return wire::tell(output, answer::tell(lookup::child(page, key)));
-    }
-    wire::broken(output)
 }
 
 // Entry: its value, and its key by way of `out`.
-fn entry_of<W: Write>(output: &mut W, page: &[u8], q: Request, out: &mut [u8]) -> io::Result<bool> {
-    match entry::entry(page, q.width, q.a as usize, out) {
-        Ok(e) => wire::reply(output, 0, e.value, 0, wire::front(out, e.key_len)),
-        Err(r) => wire::refused(output, r),
+#[tactic(auto, unfolding(view::specs::Entries::shown_entry, paper::specs::Calls::copy_checks, paper::specs::Refusals::judge))]
+fn show_entry<'a>(page: &[u8], width: u8, i: usize, out: &'a mut [u8]) -> Reply<'a>
+    requires { length out.old ≤ ROOM }
+{
+    match entry::entry(page, width, i, out) {
+        Ok(e) => Reply::done(e.value).with(&out[..e.key_len]),
+        Err(r) => r.into(),
     }
 }
 
 // Key copy: the key's length, and the lent buffer whole.
-fn copy_of<W: Write>(
-    output: &mut W,
-    page: &[u8],
-    q: Request,
-    second: &mut [u8],
-) -> io::Result<bool> {
-    if second.len() < q.m {
-        return wire::broken(output);
-    }
-    let out = &mut second[..q.m];
-    match key::copy_key(page, q.width, q.a as usize, out) {
-        Ok(n) => wire::reply(output, 0, n as u64, 0, out),
-        Err(r) => wire::refused_with(output, r, out),
-    }
+fn copy_key<'a>(page: &[u8], width: u8, i: usize, out: &'a mut [u8]) -> Reply<'a>
+    requires { length out.old ≤ ROOM }
+{
+    let copied = key::copy_key(page, width, i, out);
+    Reply::from(copied).with(out)
 }
 
-// The space numbers.
-fn space_of<W: Write>(output: &mut W, page: &[u8]) -> io::Result<bool> {
+// The space numbers, by way of `out`.
+fn show_space<'a>(page: &[u8], out: &'a mut Run) -> Reply<'a> {
     match space::space_numbers(page) {
-        Ok(s) => space_told(output, s),
-        Err(r) => wire::refused(output, r),
+        Ok(s) => {
+            out.load(&space_bytes(s));
+            Reply::done(0).with(out.content())
+        }
+        Err(r) => r.into(),
     }
 }
 
 // Seven numbers of eight bytes each.
-fn space_told<W: Write>(output: &mut W, s: Space) -> io::Result<bool> {
-    let mut out = [0u8; 56];
-    number::write_u64(&mut out, 0, s.start);
-    number::write_u64(&mut out, 8, s.end);
-    number::write_u64(&mut out, 16, s.free);
-    number::write_u64(&mut out, 24, s.used);
-    number::write_u64(&mut out, 32, s.effective);
-    number::write_u64(&mut out, 40, s.reclaimable);
-    number::write_u64(&mut out, 48, s.compacted);
-    wire::reply(output, 0, 0, 0, &out)
+fn space_bytes(s: Space) -> [u8; 56] {
+    let numbers = [
+        s.start,
+        s.end,
+        s.free,
+        s.used,
+        s.effective,
+        s.reclaimable,
+        s.compacted,
+    ];
+    let mut bytes = [0u8; 56];
+    for (place, n) in bytes.chunks_exact_mut(8).zip(numbers) {
+        place.copy_from_slice(&n.to_le_bytes());
+    }
+    bytes
 }
 
 // Two sums over all bytes, the first in the upper 32 bits and the second in the lower.
@@ -173,7 +181,7 @@ fn digest(bytes: &[u8]) -> u64 {
     let mut h1: u64 = 0;
     let mut h2: u64 = 0;
     for &byte in bytes {
-        let x = byte as u64;
+        let x = u64::from(byte);
         h1 = (31 * h1 + x + 1) % 4294967291;
         h2 = (37 * h2 + x + 1) % 4294967279;
     }

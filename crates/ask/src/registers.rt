@@ -1,38 +1,58 @@
-// Four registers in one run of bytes: each has 82,004, its length in the first four and then its content.
-ghost use Rattle.std.specs.Prelude.{◌≡◌, ◌≤◌, length};
+// The registers: each keeps a page between calls.
+ghost use Rattle.std.specs.Prelude.{◌≤◌, ◌<◌, length};
 
-use octets::{number, runs};
+use crate::run::{ROOM, Run};
+use crate::wire::Broken;
 
-// How many bytes register `r` holds.
-pub(crate) fn content_len(store: &[u8], r: usize) -> usize
-    requires { (length store.now ≡ 328016) × (r ≤ 3) }
-    ensures { result ≤ 82000 }
-{
-    let n = number::read_u32(store, 82004 * r) as usize;
-    if 82000 < n {
-        return 0;
-    }
-    n
+// The number of a register, of which there are four.
+#[derive(Clone, Copy, PartialEq, Eq)]
+pub(crate) struct RegisterNumber {
+    index: usize,
+    ghost known: { index < 4 },
 }
 
-// The content of register `r`.
-pub(crate) fn content(store: &[u8], r: usize) -> &[u8]
-    requires { (length store.now ≡ 328016) × (r ≤ 3) }
-    ensures { length result.now ≤ 82000 }
-{
-    let at = 82004 * r + 4;
-    let n = content_len(store, r);
-    &store[at..at + n]
+impl TryFrom<u8> for RegisterNumber {
+    type Error = Broken;
+
+    fn try_from(number: u8) -> Result<Self, Broken> {
+        let index = usize::from(number);
+        if index < 4 {
+            Ok(RegisterNumber { index })
+        } else {
+            Err(Broken)
+        }
+    }
 }
 
-// Makes `bytes` the content of register `r`.
-pub(crate) fn load(store: &mut [u8], r: usize, bytes: &[u8])
-    requires { (length store.old ≡ 328016) × (r ≤ 3) }
-{
-    if 82000 < bytes.len() {
-        return;
+#[derive(Drop)]
+pub(crate) struct Registers {
+    runs: [Run; 4],
+}
+
+impl Registers {
+    // Registers of no bytes.
+    pub(crate) fn new() -> Self {
+        Registers {
+            runs: [Run::new(), Run::new(), Run::new(), Run::new()],
+        }
     }
-    let at = 82004 * r;
-    number::write_u32(store, at, bytes.len() as u32);
-    runs::copy_in(store, at + 4, bytes);
+
+    // The page in register `r`.
+    pub(crate) fn page(&self, r: RegisterNumber) -> &[u8]
+        ensures { length result.now ≤ ROOM }
+    {
+        self.runs[r.index].content()
+    }
+
+    // The page in register `r`, to be written.
+    pub(crate) fn page_mut(&mut self, r: RegisterNumber) -> &mut [u8] {
+        self.runs[r.index].content_mut()
+    }
+
+    // Makes `bytes` the page in register `r`.
+    pub(crate) fn load(&mut self, r: RegisterNumber, bytes: &[u8])
+        requires { length bytes.now ≤ ROOM }
+    {
+        self.runs[r.index].load(bytes);
+    }
 }

@@ -1,144 +1,164 @@
-// Requests from a reader, and answers to a writer. Numbers are little-endian.
+// Requests from a reader, and replies to a writer. Numbers are little-endian.
+ghost use Rattle.std.specs.Prelude.{◌≤◌, length};
+ghost use Rattle.ask.specs.declared.run.TheConstants.{ROOM};
+
+use crate::call::Call;
+use crate::registers::RegisterNumber;
+use crate::run::{ROOM, Run};
 use dorgumanna::answer;
-use dorgumanna::answer::Answer;
+use dorgumanna::answer::{Answer, Values};
 use octets::number;
 use paper::refusal::Refusal;
 use std::io;
 use std::io::{Read, Write};
 
-// A request but for its two runs of bytes, of which it has the lengths.
+// The first number of a reply: the call is done, or the request cannot be carried to a call. Between them lie the refusals.
+const DONE: u8 = 0;
+
+const BROKEN: u8 = 255;
+
+// Why a request cannot be carried to a call: it is cut short, or it holds what no call takes.
+#[derive(Clone, Copy)]
+pub(crate) struct Broken;
+
+// Why no further request is answered. A derive of `thiserror` would write its two `From`, and ask for texts that nobody prints.
 #[derive(Drop)]
-pub struct Request {
-    pub call: u8,
+pub(crate) enum Failure {
+    // the system could not read or write
+    Io(io::Error),
+    Broken,
+}
+
+impl From<io::Error> for Failure {
+    fn from(e: io::Error) -> Self {
+        Failure::Io(e)
+    }
+}
+
+impl From<Broken> for Failure {
+    fn from(_: Broken) -> Self {
+        Failure::Broken
+    }
+}
+
+// A request but for its two runs of bytes. What it says of a register matters to the calls that look at one.
+#[derive(Clone, Copy)]
+pub(crate) struct Request {
+    pub call: Call,
     pub width: u8,
-    pub page: u8,
-    pub other: u8,
+    pub page: Result<RegisterNumber, Broken>,
+    pub other: Result<RegisterNumber, Broken>,
     pub a: u64,
     pub b: u64,
     pub c: u64,
-    pub n: usize,
-    pub m: usize,
 }
 
-// What the input holds next.
-#[derive(Drop)]
-pub enum Arrival {
-    Whole(Request),
-    // cut short, or a run above 82,000 bytes
-    Broken,
-    // the input ended between requests
-    End,
-}
-
-// The first `n` bytes, or all where there are fewer.
-pub(crate) fn front(bytes: &[u8], n: usize) -> &[u8] {
-    if bytes.len() < n {
-        return bytes;
+// Fills `bytes` from the input; one that ends before is broken.
+pub(crate) fn read_all<R: Read>(input: &mut R, bytes: &mut [u8]) -> Result<(), Failure> {
+    if reading::read_full(input, bytes)? < bytes.len() {
+        return Err(Failure::Broken);
     }
-    &bytes[..n]
+    Ok(())
 }
 
-// Reads `n` bytes to the front of `bytes`; false where they do not fit or the input ends before.
-fn read_run<R: Read>(input: &mut R, bytes: &mut [u8], n: usize) -> io::Result<bool> {
-    if bytes.len() < n {
-        return Ok(false);
-    }
-    Ok(reading::read_full(input, &mut bytes[..n])? == n)
-}
-
-// Reads a run's length, then the run. Answers the length; one above 82,000 where there is no such run.
-fn read_counted<R: Read>(input: &mut R, bytes: &mut [u8]) -> io::Result<usize> {
-    let mut four = [0u8; 4];
-    if reading::read_full(input, &mut four)? != 4 {
-        return Ok(82001);
-    }
-    let n = number::read_u32(&four, 0) as usize;
-    if !read_run(input, bytes, n)? {
-        return Ok(82001);
-    }
-    Ok(n)
-}
-
-// Reads the next request, its runs to the front of `first` and `second`.
+// Reads the next request, its runs to `first` and `second`; none where the input ends between requests.
 pub(crate) fn receive<R: Read>(
     input: &mut R,
-    first: &mut [u8],
-    second: &mut [u8],
-) -> io::Result<Arrival> {
+    first: &mut Run,
+    second: &mut Run,
+) -> Result<Option<Request>, Failure> {
     let mut head = [0u8; 28];
     let got = reading::read_full(input, &mut head)?;
     if got == 0 {
-        return Ok(Arrival::End);
+        return Ok(None);
     }
-    if got != 28 {
-        return Ok(Arrival::Broken);
+    if got < 28 {
+        return Err(Failure::Broken);
     }
-    let n = read_counted(input, first)?;
-    if 82000 < n {
-        return Ok(Arrival::Broken);
-    }
-    let m = read_counted(input, second)?;
-    if 82000 < m {
-        return Ok(Arrival::Broken);
-    }
-    Ok(Arrival::Whole(Request {
-        call: head[0],
+    first.read(input)?;
+    second.read(input)?;
+    Ok(Some(Request {
+        call: Call::try_from(head[0])?,
         width: head[1],
-        page: head[2],
-        other: head[3],
+        page: RegisterNumber::try_from(head[2]),
+        other: RegisterNumber::try_from(head[3]),
         a: number::read_u64(&head, 4),
         b: number::read_u64(&head, 12),
         c: number::read_u64(&head, 20),
-        n,
-        m,
     }))
 }
 
-// Writes an answer, whole and flushed; false where its bytes are too many to be written.
-pub(crate) fn reply<W: Write>(
-    output: &mut W,
+// What a request is answered: how it went, two numbers and bytes; what a call has not of these is 0 or empty.
+#[derive(Clone, Copy)]
+pub(crate) struct Reply<'a> {
     number: u8,
     a: u64,
     b: u64,
-    bytes: &[u8],
-) -> io::Result<bool> {
-    if 82000 < bytes.len() {
-        return Ok(false);
+    bytes: &'a [u8],
+    ghost fits: { length bytes.now ≤ ROOM },
+}
+
+impl<'a> Reply<'a> {
+    // One that has no bytes.
+    fn new(number: u8, a: u64, b: u64) -> Self {
+        Reply {
+            number,
+            a,
+            b,
+            bytes: b"",
+        }
     }
-    let mut head = [0u8; 21];
-    head[0] = number;
-    number::write_u64(&mut head, 1, a);
-    number::write_u64(&mut head, 9, b);
-    number::write_u32(&mut head, 17, bytes.len() as u32);
-    output.write_all(&head)?;
-    output.write_all(bytes)?;
-    output.flush()?;
-    Ok(true)
+
+    // A call done that answers one number.
+    pub(crate) fn done(a: u64) -> Self {
+        Reply::new(DONE, a, 0)
+    }
+
+    // The same with these bytes.
+    pub(crate) fn with(mut self, bytes: &'a [u8]) -> Self
+        requires { length bytes.now ≤ ROOM }
+    {
+        self.bytes = bytes;
+        self
+    }
+
+    // Writes it, whole and flushed.
+    pub(crate) fn write<W: Write>(self, output: &mut W) -> io::Result<()> {
+        let mut head = [0u8; 21];
+        head[0] = self.number;
+        number::write_u64(&mut head, 1, self.a);
+        number::write_u64(&mut head, 9, self.b);
+        number::write_u32(&mut head, 17, self.bytes.len() as u32);
+        output.write_all(&head)?;
+        output.write_all(self.bytes)?;
+        output.flush()
+    }
 }
 
-// The answer of a call that has no bytes.
-pub(crate) fn tell<W: Write>(output: &mut W, a: Answer) -> io::Result<bool> {
-    reply(output, a.number, a.a, a.b, b"")
+// A request that cannot be carried to a call.
+impl From<Broken> for Reply<'_> {
+    fn from(_: Broken) -> Self {
+        Reply::new(BROKEN, 0, 0)
+    }
 }
 
-// A call done that answers two numbers.
-pub(crate) fn pair<W: Write>(output: &mut W, a: u64, b: u64) -> io::Result<bool> {
-    reply(output, 0, a, b, b"")
+// A call with numbers for its answer.
+impl From<Answer> for Reply<'_> {
+    fn from(told: Answer) -> Self {
+        Reply::new(told.number, told.a, told.b)
+    }
 }
 
 // A call refused.
-pub(crate) fn refused<W: Write>(output: &mut W, r: Refusal) -> io::Result<bool> {
-    refused_with(output, r, b"")
+impl From<Refusal> for Reply<'_> {
+    fn from(r: Refusal) -> Self {
+        answer::refusal(r).into()
+    }
 }
 
-// A call refused that answers bytes all the same.
-pub(crate) fn refused_with<W: Write>(output: &mut W, r: Refusal, bytes: &[u8]) -> io::Result<bool> {
-    let a = answer::refusal(r);
-    reply(output, a.number, a.a, 0, bytes)
-}
-
-// A request that cannot be carried to a call: 255, and the program ends.
-pub(crate) fn broken<W: Write>(output: &mut W) -> io::Result<bool> {
-    reply(output, 255, 0, 0, b"")?;
-    Ok(false)
+// A call done or refused.
+impl<T: Values> From<Result<T, Refusal>> for Reply<'_> {
+    fn from(answered: Result<T, Refusal>) -> Self {
+        answer::tell(answered).into()
+    }
 }

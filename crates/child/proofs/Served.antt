@@ -1,14 +1,5 @@
 -- The child number of a fit page by a header: the tests are the paper's, and the upper bound is the scan's. Assumes nothing.
-use mathlib.Core.Path.{◌≡◌, refl, sym, ap, ◌∙◌}
-use mathlib.Core.Bool.{true}
-use mathlib.Core.List.{List, [], ◌∷◌}
-use Prim.Native.Nat.{ℕ, zero, suc, ◌+◌, ◌*◌, ◌-◌, ◌^◌, ◌≤◌, ◌<◌}
-use native.Mathlib.Numerals.{sub-one}
-use native.Mathlib.Omega.{arith}
-use lib.IntN.{ℤ, pos, negsuc}
-use lib.ListN.{length}
-use mir.Syntax.{w32}
-use mir.Val.{to_z}
+use Rattle.std.proofs.Common.{◌≡◌, refl, sym, ap, ◌∙◌, true, List, [], ◌∷◌, ℕ, zero, suc, ◌+◌, ◌*◌, ◌-◌, ◌^◌, ◌≤◌, ◌<◌, sub-one, arith, ℤ, pos, negsuc, length, w32, to_z, Ok, Err}
 use mir.Facts.{to_z_pos}
 use Rattle.octets.specs.Bytes.{IsBytes, le}
 use Rattle.paper.specs.Page.{slot_at, place, slot_of, value_at, frame_of, numbers_of, header_of, view_of}
@@ -33,7 +24,6 @@ use Rattle.search.proofs.Fences.{inside_is}
 use Rattle.search.proofs.Scans.{searched-scan}
 use Rattle.search.proofs.Asked.{prefix_fits, slots-fit, inside_asked}
 use Rattle.child.specs.Child.{child_with}
-use Rattle.std.specs.Prelude.{Result, Ok, Err}
 use Rattle.paper.specs.declared.answers.Child.{Child}
 
 fits : (p : List ℕ) → fit_of 8 p ≡ 0 → Fit 8 (view_of 8 p)

@@ -1,6 +1,5 @@
 -- A refusal that is neither a 5 nor an 18 carries nothing.
-use mathlib.Core.Path.{◌≡◌, refl}
-use Prim.Native.Nat.{ℕ}
+use Rattle.std.proofs.Common.{◌≡◌, refl, ℕ}
 use Rattle.paper.specs.Refusals.{carried_by}
 use Rattle.paper.specs.declared.refusal.Refusal.{Refusal}
 use Rattle.paper.specs.declared.refusal.Refusal.TheVariants.{PageLength, Width, KeyLength, HeaderRules, NotFit, FenceOrder, ValueRange, Prefix, OutsideFences, SlotNumber, Present, Neighbours, NoRoom, Payload, BufferLength, ShortKey, NotFound, OtherValue}

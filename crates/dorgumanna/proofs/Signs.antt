@@ -1,11 +1,6 @@
 -- A sign or a slot number as a word. A signed local is read back from its bits, so each law speaks of a y that is z.
-use mathlib.Core.Path.{◌≡◌, refl, sym, ap, subst, ◌∙◌}
-use mathlib.Core.Bool.{true, false}
-use Prim.Native.Nat.{ℕ}
-use lib.Dec.{T, ltb→lt}
-use lib.IntN.{ℤ, pos, negsuc, nat_abs}
+use Rattle.std.proofs.Common.{◌≡◌, refl, sym, ap, subst, ◌∙◌, true, false, T, ltb→lt, ℤ, pos, negsuc, nat_abs, not-suc-le-zero}
 use lib.Signed.{lt_z, non_neg}
-use native.Mathlib.Nat.{not-suc-le-zero}
 use Rattle.dorgumanna.specs.Told.{word}
 
 below : (z : ℤ) → lt_z z (pos 0) ≡ true → 18446744073709551615 ≡ word z

@@ -35,7 +35,7 @@ pub struct SpaceAnswer {
 }
 
 // No value.
-fn none() -> Answer
+pub fn none() -> Answer
     ensures { result ≡ told (answered []) }
 {
     Answer {
@@ -46,14 +46,14 @@ fn none() -> Answer
 }
 
 // One value.
-fn one(a: u64) -> Answer
+pub fn one(a: u64) -> Answer
     ensures { result ≡ told (answered (pos a ∷ [])) }
 {
     Answer { number: 0, a, b: 0 }
 }
 
 // Two values.
-fn two(a: u64, b: u64) -> Answer
+pub fn two(a: u64, b: u64) -> Answer
     ensures { result ≡ told (answered (pos a ∷ pos b ∷ [])) }
 {
     Answer { number: 0, a, b }

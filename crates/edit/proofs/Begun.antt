@@ -1,14 +1,8 @@
 -- Begin as code does it: the order of the fences, the page of its three steps, and the call's ways out. Assumes nothing.
-use mathlib.Core.Path.{◌≡◌, refl, ◌∙◌}
-use mathlib.Core.Bool.{true, false}
-use mathlib.Core.List.{List}
-use Prim.Native.Nat.{ℕ, ◌+◌, ◌-◌, ◌≤◌, ◌<◌}
-use native.Mathlib.Omega.{arith}
-use borrow.Author.Tests.{eq-eqb, ne_eqb, le-leb, lt-leb}
-use lib.ListN.{length, take, drop, length-drop}
-use lib.Seq.{length-take-le}
+use Rattle.std.proofs.Common.{◌≡◌, refl, ◌∙◌, true, false, List, ℕ, ◌+◌, ◌-◌, ◌≤◌, ◌<◌, arith, eq-eqb, ne_eqb, le-leb, length, take, drop, length-drop, length-take-le, Ok, Err}
+use borrow.Author.Tests.{lt-leb}
 use Rattle.octets.specs.Bytes.{put}
-use Rattle.keys.specs.Keys.{order, common}
+use Rattle.keys.specs.Keys.{common}
 use Rattle.paper.specs.Lists.{less}
 use Rattle.paper.specs.Space.{fence_bytes, begin_bytes}
 use Rattle.paper.specs.Edits.{put_all, Begin, begin_prefix, begin_lower, begin_upper, upper_start, fences_placed, begin_fields, inlined, begun}
@@ -21,7 +15,6 @@ use Rattle.node.proofs.Spaces.{begin-bytes as counted-bytes}
 use Rattle.edit.specs.Begins.{ordered, runs_placed, fences_of, flag_number, begin_header, slot_fields, front_fields, tail_fields, header_fields}
 use Rattle.edit.specs.declared.fences.Fences.{Fences}
 use Rattle.edit.proofs.BegunRuns.{rest_is}
-use Rattle.std.specs.Prelude.{Ok, Err}
 
 -- ---- the order of the fences
 module _ (lower upper : List ℕ) where
@@ -32,6 +25,8 @@ module _ (lower upper : List ℕ) where
   pub ordered-by : (length upper ≡ 0 → ⊥) → ordered lower upper ≡ less lower upper
   unfolding ordered
   ordered-by f = rw (ne_eqb (length upper) 0 f)
+
+pub ruleset by_order = (ordered-open, ordered-by)
 
 -- ---- what is written
 module _ (b : Begin) (n : ℕ) (e : n ≡ common b.lower b.upper) (room : fence_bytes n (length b.lower - n) (length b.upper - n) ≤ 16256) where

@@ -1,14 +1,9 @@
 -- The runs of a page that begins, as code writes them: a run below a place of the body, a fence's slot, the three runs downward, and the inline
 -- prefix. Assumes nothing.
-use mathlib.Core.Path.{◌≡◌, refl}
-use mathlib.Core.List.{List}
-use Prim.Native.Nat.{ℕ, ◌+◌, ◌-◌, ◌≤◌, ◌<◌}
-use native.Mathlib.Nat.{add-zero}
-use native.Mathlib.Omega.{arith}
-use borrow.Author.Tests.{le-leb, lt-leb}
+use Rattle.std.proofs.Common.{◌≡◌, refl, List, ℕ, ◌+◌, ◌-◌, ◌≤◌, ◌<◌, add-zero, arith, le-leb, length, take, drop, length-drop, take_all}
+use borrow.Author.Tests.{lt-leb}
 use borrow.Rule.Slice.PartMut.{put_mid, mid_of}
-use lib.ListN.{length, take, drop, length-drop}
-use lib.Seq.{take-length, take_all}
+use lib.Seq.{take-length}
 use Rattle.octets.specs.Bytes.{put}
 use Rattle.octets.proofs.Put.{put_rest}
 use Rattle.keys.specs.Keys.{head_of}
@@ -54,6 +49,8 @@ module _ (s : List ℕ) (at h : ℕ) where
   pub slot-long : 4 < length s → h ≡ head_of s → ◌≡◌ {A = Slot} (record { len = length s; offset = at; head = h }) (fence_slot s at)
   unfolding fence_slot
   slot-long l e = rw (lt-leb (length s) 4 l, e)
+
+pub ruleset by_length = (slot-short, slot-long)
 
 -- ---- the three runs; a, b, c are their lengths
 pub runs_room : (a b c : ℕ) → fence_bytes a b c ≤ 16256

@@ -1,13 +1,6 @@
 -- Change key on a fit page by a header: the tests are the paper's, a refusal keeps the page, and where all hold the slot takes the suffix. Assumes
 -- nothing.
-use mathlib.Core.Path.{◌≡◌, refl, sym, ap, ◌∙◌}
-use mathlib.Core.Bool.{Bool, true, false}
-use mathlib.Core.List.{List}
-use Prim.Native.Nat.{ℕ, ◌+◌, ◌-◌, ◌*◌, ◌≤◌, ◌<◌}
-use native.Mathlib.Omega.{arith}
-use borrow.Author.Tests.{lt-ltb, le-ltb, ltb-true}
-use lib.Dec.{leb, ltb}
-use lib.ListN.{length, length-drop}
+use Rattle.std.proofs.Common.{◌≡◌, refl, sym, ap, ◌∙◌, Bool, true, false, List, ℕ, ◌+◌, ◌-◌, ◌*◌, ◌≤◌, ◌<◌, arith, lt-ltb, le-ltb, ltb-true, leb, ltb, length, length-drop, Ok, Err}
 use Rattle.octets.specs.Bytes.{IsBytes}
 use Rattle.paper.specs.Lists.{all}
 use Rattle.paper.specs.Page.{slot_at, place, slot_of, frame_of, numbers_of, header_of, view_of}
@@ -30,14 +23,13 @@ use Rattle.search.specs.Probe.{class_by, class_number}
 use Rattle.search.specs.Fence.{inside_by}
 use Rattle.search.proofs.Classes.{has-prefix, lacks-prefix}
 use Rattle.search.proofs.Fences.{inside_is}
-use Rattle.search.proofs.Asked.{slots-fit}
+use Rattle.search.proofs.Asked.{slots-fit, prefix_fits, inside_asked}
 use Rattle.verdict.specs.Fits.{fit_checks, fit_admit_of}
 use Rattle.verdict.proofs.Fitness.{fitted-judge, unfit-judge}
 use Rattle.write.specs.Room.{Seat}
 use Rattle.write.proofs.Givens.{seat-given}
 use Rattle.edit.specs.Changed.{Lying, between_by, change_tests, change_with, page_with}
 use Rattle.edit.proofs.Neighbouring.{all-lying, between_is}
-use Rattle.std.specs.Prelude.{Ok, Err}
 
 -- ---- a page that is fit, with its header
 module _ (w : ℕ) (p : List ℕ) (size : length p ≡ 16384) (fitted : fit_of w p ≡ 0) where
@@ -167,3 +159,7 @@ module _ (w : ℕ) (p : List ℕ) (i : ℕ) (k : List ℕ) where
   unfolding change_of change_page change_with page_with
   change-fitted h e =
       (sym (split (Ok tt) Err ∙ fitted-judge w p (length k) h e _ Err), sym (split new (λ r. p) ∙ fitted-judge w p (length k) h e _ (λ r. p)))
+
+pub ruleset by_room = (room-kept, room-new)
+
+pub ruleset by_tests = (prefix_fits, header-rules, inside_asked, neighbours-lie, slot_lies, change-lacks, change-outside, change-absent, change-apart, change-full, change-free)

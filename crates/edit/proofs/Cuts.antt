@@ -1,33 +1,22 @@
 -- A key in two pieces against another key, a slot, a prefix and the fences: what a piece at a time says. Assumes nothing.
-use mathlib.Core.Path.{◌≡◌, refl, sym, ap, ◌∙◌}
-use mathlib.Core.Logic.{⊎_elim}
-use mathlib.Core.Bool.{Bool, true, false}
-use mathlib.Core.List.{List, [], ◌∷◌, ◌++◌, append-nil}
-use Prim.Native.Nat.{ℕ, ◌+◌, ◌-◌, ◌≤◌, ◌<◌, min}
+use Rattle.std.proofs.Common.{◌≡◌, refl, sym, ap, ◌∙◌, ⊎_elim, Bool, true, false, List, [], ◌∷◌, ◌++◌, append-nil, ℕ, ◌+◌, ◌-◌, ◌≤◌, ◌<◌, min, arith, eqb, length, take, drop, length-take, length-drop, take-append-drop, take_all, Ok, Err}
 use native.Mathlib.Decide.{dec_le}
-use native.Mathlib.Omega.{arith}
-use borrow.Author.Tests.{leb-true}
-use lib.Dec.{eqb}
-use lib.ListN.{length, take, drop, length-take, length-drop, take-append-drop, drop_of_length-le}
-use lib.Seq.{take_all, take-append-le, take-append-add, drop-append-le, drop-append-add}
-use Rattle.octets.specs.Bytes.{big_bytes}
+use lib.Seq.{take-append-le, take-append-add}
 use Rattle.keys.specs.Choice.{both}
 use Rattle.keys.specs.Keys.{begins, by_number, order, common, same_list}
 use Rattle.keys.proofs.Numbers.{alike?, by_number_eq, by_number_ne}
-use Rattle.keys.proofs.Prefixes.{common_eq, common_ne, common-le, begins-common}
-use Rattle.paper.specs.Page.{prefix_of, suffix_of, frame_of, header_of}
+use Rattle.keys.proofs.Prefixes.{common_eq, common_ne, common-le}
+use Rattle.paper.specs.Page.{prefix_of, frame_of, header_of}
 use Rattle.paper.specs.Verdicts.{inside}
 use Rattle.paper.specs.Refusals.{judge}
 use Rattle.paper.specs.Searches.{probe_suffix}
 use Rattle.paper.specs.Calls.{has_prefix}
-use Rattle.paper.specs.declared.page.Slot.{Slot}
 use Rattle.paper.specs.declared.page.Header.{Header}
 use Rattle.paper.specs.declared.refusal.Refusal.TheVariants.{Prefix, OutsideFences}
-use Rattle.node.proofs.Spelling.{length-prefix_of, suffix-short}
+use Rattle.node.proofs.Spelling.{length-prefix_of}
 use Rattle.search.specs.Fence.{inside_by}
 use Rattle.search.proofs.Fences.{inside_is}
 use Rattle.edit.specs.RunTests.{Fenced, Meeting, standing}
-use Rattle.std.specs.Prelude.{Ok, Err}
 use Rattle.std.specs.declared.cmp.Ordering.{Ordering}
 use Rattle.std.specs.Ordering.{is_lt, is_gt, ordering_reverse}
 use Rattle.std.specs.declared.cmp.Ordering.TheVariants.{Less, Equal, Greater}
@@ -74,13 +63,7 @@ module _ (a b x : List ℕ) (n : ℕ) (e : n ≡ common a x) (o : Ordering) wher
 pub two_within : (a x : List ℕ) (n : ℕ) → n ≡ common a x → n ≤ length x
 two_within a x n e = omega (arith, e, (common-le a x).1)
 
--- ---- a short suffix as code cuts it
-pub short_suffix : (p : List ℕ) (s : Slot) (four : List ℕ) → s.len ≤ 4 → four ≡ big_bytes 4 s.head → take s.len four ≡ suffix_of p s
-short_suffix p s four h e = ap (take s.len) e ∙ sym (suffix-short p s h)
-
--- ---- s begins with x
-begins-length : (s x : List ℕ) → begins s x ≡ true → length x ≤ length s
-begins-length s x h = let l = leb-true (length x) (common s x) (sym (begins-common s x) ∙ h) in omega (arith, (common-le s x).0)
+pub ruleset by_pieces = (two-lead, two-rest, two_within)
 
 -- ---- lists in two pieces
 same_two : (a b x y : List ℕ) → length a ≡ length x → same_list (a ++ b) (x ++ y) ≡ both (same_list a x) (same_list b y)
@@ -109,19 +92,6 @@ module _ (m : ℕ) (a b : List ℕ) (c : ℕ) (e : c ≡ min m (length a)) where
           let g : m ≡ length a + (m - length a) = omega arith in
           rw (f, take_all (length a) a (omega arith)) (ap (λ (k : ℕ). take k (a ++ b)) g ∙ take-append-add a b (m - length a))
 
-  pub drop-two : drop m (a ++ b) ≡ drop c a ++ drop (m - c) b
-  drop-two = go (dec_le m (length a))
-    where
-      go : Dec (m ≤ length a) → drop m (a ++ b) ≡ drop c a ++ drop (m - c) b
-      go (yes h) =
-          let f : c ≡ m = omega arith in
-          let g : m - m ≡ 0 = omega arith in
-          rw (f, g) (drop-append-le m a b h)
-      go (no h) =
-          let f : c ≡ length a = omega arith in
-          let g : m ≡ length a + (m - length a) = omega arith in
-          rw (f, drop_of_length-le a {i = length a} (omega arith)) (ap (λ (k : ℕ). drop k (a ++ b)) g ∙ drop-append-add a b (m - length a))
-
 -- ---- the page's prefix by its header
 module _ (p : List ℕ) (h : Header) (F : Fenced p h) where
   pub gone-is : (frame_of p).prefix_len ≡ h.prefix_len
@@ -135,8 +105,8 @@ module _ (p : List ℕ) (h : Header) (F : Fenced p h) where
   pub whole_length : (whole : List ℕ) → whole ≡ prefix_of p h.prefix_len → length whole ≡ h.prefix_len
   whole_length whole e = rw e (length-prefix_of p h.prefix_len (omega (arith, F.shown.size)) F.shown.most)
 
-  -- ---- a key of two pieces P and S, where the page's prefix was found as `whole`
-  module _ (P : List ℕ) (c : ℕ) (t : Bool) (M : Meeting p h P c t) (S whole : List ℕ) (e : whole ≡ prefix_of p h.prefix_len) where
+  -- ---- a key k of two pieces P and S, where the page's prefix was found as `whole`
+  module _ (P : List ℕ) (c : ℕ) (t : Bool) (M : Meeting p h P c t) (S k : List ℕ) (K : P ++ S ≡ k) (whole : List ℕ) (e : whole ≡ prefix_of p h.prefix_len) where
     -- what is left of the page's prefix for the second piece
     abbrev wanted : List ℕ
     wanted = take (length whole - c) (drop c whole)
@@ -150,51 +120,43 @@ module _ (p : List ℕ) (h : Header) (F : Fenced p h) where
     wanted-length : length wanted ≡ h.prefix_len - c
     wanted-length = rw (wanted-is, length-drop, whole_length whole e)
 
-    has-two : has_prefix (frame_of p) (P ++ S) ≡ both t (begins S wanted)
+    has-two : has_prefix (frame_of p) k ≡ both t (begins S wanted)
     unfolding has_prefix begins
     has-two =
         let l = whole_length whole e in
-        let k = cut-within in
+        let w = cut-within in
         let n : length (take c P) ≡ length (take c whole) = length-take c P ∙ (let z : min c (length P) ≡ min c (length whole) = omega arith in z) ∙ sym (length-take c whole) in
-        rw (gone-is, whole_is, ← e, take-two h.prefix_len P S c M.cut)
+        rw (← K, gone-is, whole_is, ← e, take-two h.prefix_len P S c M.cut)
         (ap (same_list (take c P ++ take (h.prefix_len - c) S)) (sym (take-append-drop c whole))
         ∙ same_two (take c P) (take (h.prefix_len - c) S) (take c whole) (drop c whole) n
         ∙ rw (M.alikeness, ← e, wanted-length, wanted-is))
 
-    pub stands-unlike : t ≡ false → standing p (P ++ S) ≡ Err Prefix
+    pub stands-unlike : t ≡ false → standing p k ≡ Err Prefix
     unfolding standing judge
     stands-unlike f = rw (has-two, f)
 
     -- it was asked whether the second piece begins with that
     module _ (f : t ≡ true) (b : Bool) (g : b ≡ begins S wanted) where
-      has-is : has_prefix (frame_of p) (P ++ S) ≡ b
+      has-is : has_prefix (frame_of p) k ≡ b
       has-is = has-two ∙ rw (f, g)
 
-      pub stands-lacks : b ≡ false → standing p (P ++ S) ≡ Err Prefix
+      pub stands-lacks : b ≡ false → standing p k ≡ Err Prefix
       unfolding standing judge
-      stands-lacks k = rw (has-is, k)
+      stands-lacks n = rw (has-is, n)
 
       -- and then of what is left of both
-      module _ (k : b ≡ true) where
-        pub wanted-fits : length wanted ≤ length S
-        wanted-fits = begins-length S wanted (sym g ∙ k)
-
-        abbrev rest : List ℕ
-        rest = take (length P - c) (drop c P) ++ take (length S - length wanted) (drop (length wanted) S)
-
-        rest_is : rest ≡ probe_suffix (frame_of p) (P ++ S)
-        rest_is =
-            rw (take_all (length P - c) (drop c P) (rw length-drop (omega arith)), take_all (length S - length wanted) (drop (length wanted) S) (rw length-drop (omega arith)), wanted-length, gone-is)
-            (sym (drop-two h.prefix_len P S c M.cut))
+      module _ (n : b ≡ true) (rest : List ℕ) (r : rest ≡ drop (length whole) (P ++ S)) where
+        rest_is : rest ≡ probe_suffix (frame_of p) k
+        rest_is = r ∙ rw (whole_length whole e, gone-is, K)
 
         module _ (i : Bool) (m : i ≡ inside_by p h rest) where
-          inside-two : inside (frame_of p) (P ++ S) ≡ i
-          inside-two = sym (m ∙ inside_is p (P ++ S) (has-is ∙ k) h rest F.header rest_is)
+          inside-two : inside (frame_of p) k ≡ i
+          inside-two = sym (m ∙ inside_is p k (has-is ∙ n) h rest F.header rest_is)
 
-          pub stands-outside : i ≡ false → standing p (P ++ S) ≡ Err OutsideFences
+          pub stands-outside : i ≡ false → standing p k ≡ Err OutsideFences
           unfolding standing judge
-          stands-outside n = rw (has-is, k, inside-two, n)
+          stands-outside l = rw (has-is, n, inside-two, l)
 
-          pub stands-done : i ≡ true → standing p (P ++ S) ≡ Ok tt
+          pub stands-done : i ≡ true → standing p k ≡ Ok tt
           unfolding standing judge
-          stands-done n = rw (has-is, k, inside-two, n)
+          stands-done l = rw (has-is, n, inside-two, l)

@@ -1,13 +1,6 @@
 -- Insert, way out by way out: the tests after the page was found fit, the slot and the room that the search and the header give, and the page that is written.
 -- Assumes nothing.
-use mathlib.Core.Path.{◌≡◌, refl, sym, ◌∙◌}
-use mathlib.Core.Bool.{Bool, true, false}
-use mathlib.Core.List.{List}
-use Prim.Native.Nat.{ℕ, ◌+◌, ◌-◌, ◌≤◌}
-use native.Mathlib.Omega.{arith}
-use borrow.Author.Tests.{leb-true}
-use lib.Dec.{leb}
-use lib.ListN.{length, length-drop}
+use Rattle.std.proofs.Common.{◌≡◌, refl, sym, ◌∙◌, Bool, true, false, List, ℕ, ◌+◌, ◌-◌, ◌≤◌, arith, leb-true, leb, length, length-drop, Result, Ok, Err}
 use Rattle.octets.specs.Bytes.{IsBytes, le}
 use Rattle.keys.specs.Choice.{pick}
 use Rattle.paper.specs.Lists.{all, differ}
@@ -30,14 +23,13 @@ use Rattle.search.specs.Probe.{class_by, class_number}
 use Rattle.search.specs.Fence.{inside_by}
 use Rattle.search.specs.Finds.{find_in}
 use Rattle.search.proofs.Fences.{inside_is}
-use Rattle.search.proofs.Asked.{start-read, end_read}
+use Rattle.search.proofs.Asked.{start-read, end_read, inside_asked}
 use Rattle.search.proofs.Scans.{found-scan}
 use Rattle.write.specs.Room.{Room}
 use Rattle.write.proofs.Givens.{room-given}
 use Rattle.edit.specs.Tested.{Tested}
 use Rattle.edit.specs.Inserts.{insert_tests, insert_with, inserted_with, room_with, place_by}
-use Rattle.edit.proofs.Testing.{prefix-held, prefix-not, tested-fit, tested-rules, judge-refused, judge-fitted}
-use Rattle.std.specs.Prelude.{Result, Ok, Err}
+use Rattle.edit.proofs.Testing.{prefix-held, prefix-not, tested-fit, tested-rules, class-asked, find-asked, judge-refused, judge-fitted}
 use Rattle.paper.specs.declared.answers.Found.{Found}
 use Rattle.paper.specs.declared.answers.Found.TheVariants.{Equal, Smaller}
 
@@ -144,3 +136,5 @@ module _ (w : ℕ) (p k : List ℕ) (v : ℕ) where
   unfolding insert_of insert_page insert_checks insert_with inserted_with
   insert-fitted h e =
       (sym (judge-fitted w p (length k) (insert_tests w p k v) _ Err h e), sym (judge-fitted w p (length k) (insert_tests w p k v) _ (λ r. p) h e))
+
+pub ruleset by_place = (inside_asked, tested-rules, class-asked, find-asked, room_asked, place-range, place-lacks, place-outside)

@@ -1,14 +1,8 @@
 -- The neighbours of a slot as code meets them, suffix by suffix; on a fit page, for a key inside the fences, they are the paper's `between`, since all
 -- keys share the prefix. Assumes nothing.
-use mathlib.Core.Path.{◌≡◌, refl, sym, ap, ◌∙◌}
-use mathlib.Core.Bool.{Bool, true, false}
-use mathlib.Core.List.{List, [], ◌++◌}
-use Prim.Native.Nat.{ℕ, ◌+◌, ◌-◌, ◌≤◌, ◌<◌}
-use native.Mathlib.Omega.{arith}
-use borrow.Author.Tests.{eq-eqb, ne_eqb, le-leb, lt-leb, leb-false}
-use lib.Dec.{leb, eqb}
-use lib.ListN.{length, take, drop, get_or}
-use Rattle.octets.specs.Bytes.{IsBytes, part, big_bytes}
+use Rattle.std.proofs.Common.{◌≡◌, refl, sym, ap, ◌∙◌, Bool, true, false, List, [], ◌++◌, ℕ, ◌+◌, ◌-◌, ◌≤◌, ◌<◌, arith, eq-eqb, ne_eqb, le-leb, leb-false, leb, eqb, length, get_or}
+use borrow.Author.Tests.{lt-leb}
+use Rattle.octets.specs.Bytes.{IsBytes}
 use Rattle.keys.specs.Choice.{pick}
 use Rattle.keys.proofs.Orders.{order-append}
 use Rattle.paper.specs.Lists.{less}
@@ -22,18 +16,8 @@ use Rattle.paper.proofs.Same.{body_bytes_long}
 use Rattle.paper.proofs.Fit.{Fit, placed}
 use Rattle.paper.proofs.Filing.{whole-key}
 use Rattle.paper.proofs.Searching.{key-at, length-keys}
-use Rattle.node.proofs.Spelling.{suffix-short}
 use Rattle.edit.specs.Changed.{Lying, above_previous, below_next, between_by}
 use Rattle.std.specs.Ordering.{is_lt}
-
--- ---- a slot; l is its suffix as code found it, r whether it is below x
-module _ (p x l : List ℕ) (s : Slot) (r : Bool) (e : r ≡ less l x) where
-  pub slot-short : (v : List ℕ) → s.len ≤ 4 → v ≡ big_bytes 4 s.head → l ≡ take s.len v → r ≡ less (suffix_of p s) x
-  slot-short v h g k = e ∙ ap (λ (a : List ℕ). less a x) (k ∙ ap (take s.len) g ∙ sym (suffix-short p s h))
-
-  pub slot-long : 4 < s.len → l ≡ take (96 + s.offset + s.len - (96 + s.offset)) (drop (96 + s.offset) p) → r ≡ less (suffix_of p s) x
-  unfolding suffix_of part
-  slot-long h k = let n : 96 + s.offset + s.len - (96 + s.offset) ≡ s.len = omega arith in rw (lt-leb s.len 4 h) (e ∙ ap (λ (a : List ℕ). less a x) (k ∙ rw n))
 
 -- ---- the slot before, and the slot after; s is that slot as it was read
 module _ (p x : List ℕ) (i : ℕ) where
@@ -67,6 +51,8 @@ module _ (p x : List ℕ) (i : ℕ) where
 pub lying : (p : List ℕ) (n j : ℕ) (s : Slot) → Lying p n → j < n → s ≡ slot_at p (place j) → 4 < s.len → 96 + s.offset + s.len ≤ length p
 unfolding slot_of
 lying p n j s L h e = rw e (L j h)
+
+pub ruleset by_neighbours = (none_before, one-before, none_after, one-after, not-above, above)
 
 -- ---- on a fit page
 module _ (w : ℕ) (p : List ℕ) (size : length p ≡ 16384) (F : Fit w (view_of w p)) where

@@ -1,12 +1,6 @@
 -- Set value, way out by way out: the tests after the page was found fit, the slot where the key stands, and the page that is written. Assumes nothing.
-use mathlib.Core.Path.{◌≡◌, refl, sym, ap, ◌∙◌}
-use mathlib.Core.Bool.{Bool, true, false, not}
-use mathlib.Core.List.{List}
-use Prim.Native.Nat.{ℕ, ◌+◌, ◌*◌, ◌≤◌, ◌<◌, min}
-use native.Mathlib.Omega.{arith}
-use borrow.Author.Tests.{not-true, eqb-true, eq-eqb, ne_eqb}
-use lib.Dec.{eqb}
-use lib.ListN.{length}
+use Rattle.std.proofs.Common.{◌≡◌, refl, sym, ap, ◌∙◌, Bool, true, false, not, List, ℕ, ◌+◌, ◌*◌, ◌≤◌, ◌<◌, min, arith, eqb-true, eq-eqb, ne_eqb, eqb, length, Result, Ok, Err}
+use borrow.Author.Tests.{not-true}
 use Rattle.octets.specs.Bytes.{IsBytes, le}
 use Rattle.keys.specs.Choice.{pick, both}
 use Rattle.paper.specs.Lists.{all, differ}
@@ -30,12 +24,11 @@ use Rattle.search.specs.Probe.{class_by, class_number}
 use Rattle.search.specs.Finds.{find_in}
 use Rattle.search.proofs.Scans.{found-scan}
 use Rattle.write.proofs.Givens.{set_given}
-use Rattle.write.proofs.Rekeys.{value_is}
+use Rattle.write.proofs.Rekeys.{value_is, value-within}
 use Rattle.edit.specs.Tested.{Tested}
 use Rattle.edit.specs.Sets.{set_tests, held_with, held_at, set_with, value_set_with}
 use Rattle.edit.proofs.Widths.{width-most}
-use Rattle.edit.proofs.Testing.{prefix-held, prefix-not, tested-fit, judge-refused, judge-fitted}
-use Rattle.std.specs.Prelude.{Result, Ok, Err}
+use Rattle.edit.proofs.Testing.{prefix-held, prefix-not, tested-fit, class-asked, find-asked, judge-refused, judge-fitted}
 use Rattle.paper.specs.declared.answers.Found.{Found}
 use Rattle.paper.specs.declared.answers.Found.TheVariants.{Equal, Smaller}
 
@@ -187,3 +180,7 @@ module _ (w : ℕ) (p k : List ℕ) (expected new : ℕ) where
   unfolding set_of set_page set_checks set_with value_set_with
   set-fitted h e =
       (sym (judge-fitted w p (length k) (set_tests w p k expected new) _ Err h e), sym (judge-fitted w p (length k) (set_tests w p k expected new) _ (λ r. p) h e))
+
+pub ruleset by_slot = (value-within, held-other, held_same)
+
+pub ruleset by_search = (class-asked, find-asked, held-range, held-range-new, held-lacks, held_none, held-no-search, held-asked, held_found)

@@ -1,13 +1,7 @@
 -- Run copy: each way out of its tests is a case of the judgement, and what the tests found is what the writing half asks for. Assumes nothing.
-use mathlib.Core.Path.{◌≡◌, refl, sym, ap, ◌∙◌}
-use mathlib.Core.Logic.{⊎_elim}
-use mathlib.Core.Bool.{Bool, true, false}
-use mathlib.Core.List.{List, [], ◌∷◌, ◌++◌}
-use Prim.Native.Nat.{ℕ, ◌+◌, ◌-◌, ◌≤◌, ◌<◌}
-use native.Mathlib.Omega.{arith}
-use borrow.Author.Tests.{eqb-true, eq-eqb, ne_eqb, leb-true, le-leb, lt-leb}
-use lib.Dec.{leb, eqb}
-use lib.ListN.{length}
+use Rattle.std.proofs.Common.{◌≡◌, refl, sym, ap, ◌∙◌, ⊎_elim, Bool, true, false, List, [], ◌∷◌, ◌++◌, ℕ, ◌+◌, ◌-◌, ◌≤◌, ◌<◌, arith, eqb-true, eq-eqb, ne_eqb, leb-true, le-leb, leb, eqb, length, Result, Ok, Err}
+use Rattle.std.specs.Prelude.{⊤}
+use borrow.Author.Tests.{lt-leb}
 use Rattle.keys.specs.Choice.{pick}
 use Rattle.keys.proofs.Numbers.{alike?}
 use Rattle.paper.specs.Lists.{all, sum}
@@ -33,7 +27,6 @@ use Rattle.write.proofs.Givens.{payload-given, source-given, ready-given}
 use Rattle.edit.specs.RunTests.{Shown, Fenced, standing_from, passes_last, needs_from, run_tests, run_judged, run_written}
 use Rattle.edit.proofs.Cuts.{gone-is}
 use Rattle.edit.proofs.RunKeys.{first-held, standing-run, needs-run, above-run}
-use Rattle.std.specs.Prelude.{Result, Ok, Err, ⊤}
 
 -- ---- a width that is known
 width-most : (w : ℕ) → is_width w ≡ true → w ≤ 8
@@ -87,21 +80,18 @@ module _ (w : ℕ) (p q : List ℕ) (a n : ℕ) where
       first : ◌≡◌ {A = Result ⊤ Refusal} (judge (run_tests w p q a n) (Ok tt) Err) (judge (entry_checks p (run w q a n) ++ lastChecks) (Ok tt) Err)
       first = unfold judge in rw (le-leb (a + n) (numbers_of q).count l)
 
-  module _ (h g : Header) (F : Fenced p h) (Q : Shown q g.prefix_len) (G : g ≡ header_of q) where
-    count-is : (numbers_of q).count ≡ g.count
-    unfolding header_of
-    count-is = ap (λ (x : Header). x.count) (sym G)
+  -- the source has `count` entries, and its prefix m bytes
+  module _ (h : Header) (F : Fenced p h) (m : ℕ) (Q : Shown q m) (count : ℕ) (G : count ≡ (numbers_of q).count) where
+    pub judged-beyond : count < a → Err SlotNumber ≡ run_judged w p q a n
+    judged-beyond l = past (omega (arith, G))
 
-    pub judged-beyond : g.count < a → Err SlotNumber ≡ run_judged w p q a n
-    judged-beyond l = past (omega (arith, count-is))
+    module _ (l : a ≤ count) where
+      pub judged-past : count - a < n → Err SlotNumber ≡ run_judged w p q a n
+      judged-past k = past (omega (arith, G))
 
-    module _ (l : a ≤ g.count) where
-      pub judged-past : g.count - a < n → Err SlotNumber ≡ run_judged w p q a n
-      judged-past m = past (omega (arith, count-is))
-
-      module _ (m : n ≤ g.count - a) where
+      module _ (k : n ≤ count - a) where
         pub there : a + n ≤ (numbers_of q).count
-        there = omega (arith, count-is)
+        there = omega (arith, G)
 
         pub judged-none : n ≡ 0 → Ok tt ≡ run_judged w p q a n
         judged-none z = sym (parted there ∙ empty z)
@@ -128,19 +118,19 @@ module _ (w : ℕ) (p q : List ℕ) (a n : ℕ) where
             ended = parted there ∙ judge_hold (entry_checks p (run w q a n)) (judge lastChecks (Ok tt) Err) Err (done_holds (entry_checks p (run w q a n)) (stood ∙ t))
 
             -- b is what 12 said
-            module _ (b : Bool) (k : b ≡ passes_last p h.count (key_at q (slot_of q a))) where
+            module _ (b : Bool) (d : b ≡ passes_last p h.count (key_at q (slot_of q a))) where
               above-is : above_last (keys (listing w p)) (run w q a n) ≡ b
               unfolding header_of
-              above-is = above-run w q p n a some there ∙ sym (k ∙ ap (λ (x : Header). passes_last p x.count (key_at q (slot_of q a))) F.header)
+              above-is = above-run w q p n a some there ∙ sym (d ∙ ap (λ (x : Header). passes_last p x.count (key_at q (slot_of q a))) F.header)
 
               pub judged-neighbours : b ≡ false → Err Neighbours ≡ run_judged w p q a n
               unfolding judge
               judged-neighbours y = sym (ended ∙ rw (above-is, y))
 
               -- c is what 13 said
-              module _ (y : b ≡ true) (c : Bool) (z : c ≡ leb (needs_from w h.prefix_len g.prefix_len q a n) (h.end - h.start)) where
+              module _ (y : b ≡ true) (c : Bool) (z : c ≡ leb (needs_from w h.prefix_len m q a n) (h.end - h.start)) where
                 room_is : leb (need_of_all w p (run w q a n)) (free (numbers_of p)) ≡ c
-                room_is = rw (needs-run w q p g.prefix_len Q n a there, gone-is p h F, free-is) (sym z)
+                room_is = rw (needs-run w q p m Q n a there, gone-is p h F, free-is) (sym z)
                   where
                     free-is : free (numbers_of p) ≡ h.end - h.start
                     free-is = unfold header_of in ap (λ (x : Header). x.end - x.start) (sym F.header)
@@ -185,6 +175,17 @@ module _ (w : ℕ) (p q : List ℕ) (a n : ℕ) where
       pub copy_done : (x : List ℕ) → x ≡ run_copied w p (run w q a n) → (Ok tt ≡ run_judged w p q a n) × (x ≡ run_written w p q a n)
       unfolding run_written
       copy_done x e = (sym t ∙ f, e ∙ sym (judge_hold (run_tests w p q a n) (run_copied w p (run w q a n)) (λ y. p) held))
+
+pub ruleset by_tests = (judged-beyond, judged-past, there, judged-none, judged-entry, first-asked, judged-neighbours, judged-full, judged-done)
+
+-- ---- P, H and Q are page, header and source as they are lent together
+module _ (p P : List ℕ) (h H : Header) (q Q : List ℕ) (e : (P ≡ p) × (H ≡ h) × (Q ≡ q)) where
+  pub lent-asked : (g : Header) → g ≡ header_of q → h.start ≤ h.end → (g.count ≡ (numbers_of Q).count) × (H.start ≤ H.end)
+  unfolding header_of
+  lent-asked g f o = rw (e.1, e.2) (ap (λ (x : Header). x.count) f, o)
+
+  pub lent-judged : (w a n : ℕ) (r : Result ⊤ Refusal) → r ≡ run_judged w P Q a n → r ≡ run_judged w p q a n
+  lent-judged w a n r f = f ∙ rw (e.0, e.2)
 
 -- ---- what 5 said of a page
 unfit : (w : ℕ) (p : List ℕ) (x : Refusal) → fit_header_of w p ≡ Err x → (eqb (fit_of w p) 0 ≡ false) × (NotFit (fit_of w p) ≡ x)

@@ -1,21 +1,15 @@
 -- The tests of a run copy, slot by slot: a turn and the end of each loop, and that over all slots of the run they are the paper's tests of its
 -- entries. Assumes nothing.
-use mathlib.Core.Path.{◌≡◌, refl, sym, ap, ◌∙◌}
-use mathlib.Core.Logic.{⊎_elim}
-use mathlib.Core.Bool.{Bool, true, false}
-use mathlib.Core.List.{List, [], ◌∷◌, ◌++◌}
-use Prim.Native.Nat.{ℕ, zero, suc, ◌+◌, ◌-◌, ◌*◌, ◌≤◌, ◌<◌, min}
+use Rattle.std.proofs.Common.{◌≡◌, refl, sym, ap, ◌∙◌, ⊎_elim, Bool, true, false, List, [], ◌∷◌, ◌++◌, ℕ, zero, suc, ◌+◌, ◌-◌, ◌*◌, ◌≤◌, ◌<◌, min, arith, eq-eqb, ne_eqb, le-leb, leb, length, take, drop, get_or, length-append, length-drop, drop-cons, Result, Ok, Err}
+use Rattle.std.specs.Prelude.{⊤}
 use native.Mathlib.Decide.{dec_le}
-use native.Mathlib.Omega.{arith}
-use borrow.Author.Tests.{eq-eqb, ne_eqb, le-leb, lt-leb}
-use lib.Dec.{leb}
-use lib.ListN.{length, take, drop, get_or, length-append, length-take, length-drop, length-map, get_or-map}
-use lib.Seq.{take_all, drop-cons}
+use borrow.Author.Tests.{lt-leb}
+use lib.ListN.{length-map, get_or-map}
 use Rattle.octets.specs.Bytes.{le}
 use Rattle.keys.specs.Choice.{pick}
 use Rattle.keys.specs.Keys.{same_list}
 use Rattle.keys.proofs.Numbers.{alike?}
-use Rattle.keys.proofs.Orders.{order-append, same_list_eq}
+use Rattle.keys.proofs.Orders.{order-append}
 use Rattle.paper.specs.Lists.{sum, less}
 use Rattle.paper.specs.Page.{slot_at, place, slot_of, prefix_of, suffix_of, value_at, body_bytes, frame_of, numbers_of, header_of}
 use Rattle.paper.specs.Space.{need}
@@ -34,21 +28,20 @@ use Rattle.paper.proofs.CopyingFit.{prefix_whole}
 use Rattle.node.proofs.Spelling.{length-prefix_of, length-suffix_of, length_four, suffix-short}
 use Rattle.search.specs.Fence.{LongLies}
 use Rattle.edit.specs.RunTests.{Shown, Fenced, Meeting, standing, standing_from, passes_last, needs_from}
-use Rattle.edit.proofs.Cuts.{drop-two, gone-is, whole_is, whole_length}
-use Rattle.std.specs.Prelude.{Result, Ok, Err, ⊤}
+use Rattle.edit.proofs.Cuts.{gone-is, whole_length, cut-within, stands-unlike, stands-lacks, stands-outside, stands-done}
 use Rattle.std.specs.Ordering.{is_lt}
 
--- ---- refusals and answers of an edit
 -- ---- what was read of the source
-pub shown-own : (q : List ℕ) (l : ℕ) → Shown q l → Shown q (frame_of q).prefix_len
-shown-own q l Q = record { size = Q.size; prefix = refl; most = rw (← Q.prefix) Q.most; slots = Q.slots; rows = Q.rows }
-
+-- its prefix
 pub prefix-own : (q : List ℕ) (l : ℕ) → Shown q l → (P : List ℕ) → P ≡ prefix_of q l → P ≡ (frame_of q).prefix
 unfolding frame_of
 prefix-own q l Q P e = e ∙ ap (prefix_of q) Q.prefix
 
 prefix_long : (q : List ℕ) (l : ℕ) → Shown q l → (P : List ℕ) → P ≡ prefix_of q l → length P ≡ l
 prefix_long q l Q P e = rw e (length-prefix_of q l (omega (arith, Q.size)) Q.most)
+
+pub shown-own : (q : List ℕ) (l : ℕ) → Shown q l → (P : List ℕ) → P ≡ prefix_of q l → Shown q (length P)
+shown-own q l Q P e = rw (prefix_long q l Q P e) Q
 
 -- both prefixes, as far as the shorter goes
 pub meeting : (p : List ℕ) (h : Header) → Fenced p h → (whole P : List ℕ) → whole ≡ prefix_of p h.prefix_len → (c : ℕ) → c ≡ min (length whole) (length P)
@@ -72,6 +65,11 @@ unfolding key_at frame_of
 length-key q l Q j h =
     rw (length-append, long_suffix_lem q (slot_of q j) (Q.rows j h), ← Q.prefix, length-prefix_of q l (omega (arith, Q.size)) Q.most)
 
+-- and its key, of both pieces as they were read
+pub key-read : (q : List ℕ) (j : ℕ) (P : List ℕ) → P ≡ (frame_of q).prefix → (s : Slot) → s ≡ slot_at q (place j) → (S : List ℕ) → S ≡ suffix_of q s → P ++ S ≡ key_at q (slot_of q j)
+unfolding key_at slot_of
+key-read q j P f s g S k = rw (f, k, g)
+
 -- ---- 8 and 9: one turn
 module _ (p q : List ℕ) (j e : ℕ) (lt : j < e) where
   abbrev key : List ℕ
@@ -81,23 +79,19 @@ module _ (p q : List ℕ) (j e : ℕ) (lt : j < e) where
   unfolding standing_from
   standing-turn = let k : e - j ≡ suc (e - (j + 1)) = omega arith in rw k
 
-  -- P is the source's prefix and s the slot that were read, r what was found of them
-  module _ (P : List ℕ) (f : P ≡ (frame_of q).prefix) (s : Slot) (g : s ≡ slot_at q (place j)) (r : Result ⊤ Refusal) (k : r ≡ standing p (P ++ suffix_of q s)) where
-    found : r ≡ standing p key
-    unfolding key_at slot_of
-    found = k ∙ rw (f, g)
-
+  -- r is what was found of the key
+  module _ (r : Result ⊤ Refusal) (k : r ≡ standing p key) where
     pub stand-refused : (x : Refusal) → r ≡ Err x → Err x ≡ standing_from p q j (e - j)
     unfolding standing
     stand-refused x t =
         sym
         (standing-turn
-        ∙ refused-judge (prefix_held p key ∷ inside_fences p key ∷ []) tt x (sym found ∙ t) (standing_from p q (j + 1) (e - (j + 1))) Err)
+        ∙ refused-judge (prefix_held p key ∷ inside_fences p key ∷ []) tt x (sym k ∙ t) (standing_from p q (j + 1) (e - (j + 1))) Err)
 
     pub stand-on : r ≡ Ok tt → standing_from p q j (e - j) ≡ standing_from p q (j + 1) (e - (j + 1))
     unfolding standing
     stand-on t =
-        standing-turn ∙ judge_hold (prefix_held p key ∷ inside_fences p key ∷ []) (standing_from p q (j + 1) (e - (j + 1))) Err (done_holds (prefix_held p key ∷ inside_fences p key ∷ []) (sym found ∙ t))
+        standing-turn ∙ judge_hold (prefix_held p key ∷ inside_fences p key ∷ []) (standing_from p q (j + 1) (e - (j + 1))) Err (done_holds (prefix_held p key ∷ inside_fences p key ∷ []) (sym k ∙ t))
 
 pub stand_end : (p q : List ℕ) (j e : ℕ) → e ≤ j → standing_from p q j (e - j) ≡ Ok tt
 unfolding standing_from
@@ -135,13 +129,10 @@ pub needs_end : (w g l : ℕ) (q : List ℕ) (j e y : ℕ) → e ≤ j → leb (
 unfolding needs_from
 needs_end w g l q j e y h = let k : e - j ≡ 0 = omega arith in rw k (le-leb 0 y (omega arith))
 
--- what one entry needs; s is its slot, c what goes of its key
-pub need_is : (w g l : ℕ) (q : List ℕ) (j : ℕ) (s : Slot) (c x : ℕ) → s ≡ slot_at q (place j) → c ≡ min g (l + s.len) → x ≡ body_bytes 4 (l + s.len - c)
-    → 8 + w + x ≡ need w (l + (slot_of q j).len - g)
+-- what one entry needs; s is its slot
+pub need_is : (w g l : ℕ) (q : List ℕ) (j : ℕ) (s : Slot) (x : ℕ) → s ≡ slot_at q (place j) → x ≡ body_bytes 4 (l + s.len - g) → 8 + w + x ≡ need w (l + (slot_of q j).len - g)
 unfolding need slot_of
-need_is w g l q j s c x e f d =
-    let k : l + s.len - c ≡ l + s.len - g = omega arith in
-    ap (λ (i : ℕ). 8 + w + i) (d ∙ ap (body_bytes 4) k ∙ ap (λ (o : Slot). body_bytes 4 (l + o.len - g)) e)
+need_is w g l q j s x e d = rw (d, e)
 
 -- ---- 12
 pub last_none : (p : List ℕ) (n : ℕ) (k : List ℕ) → n ≡ 0 → passes_last p n k ≡ true
@@ -156,42 +147,21 @@ module _ (p : List ℕ) (h : Header) (F : Fenced p h) (q : List ℕ) (l a : ℕ)
   pub last_within : (h.count ≡ 0 → ⊥) → 96 + 8 * (h.count - 1) + 8 ≤ length p
   last_within z = omega (arith, F.shown.slots, F.shown.size, count-is)
 
-  -- the slot of the source's entry and its prefix, as they were read, and what goes of the prefix
-  module _ (some : h.count ≡ 0 → ⊥) (last : Slot) (e : last ≡ slot_at p (place (h.count - 1))) (s : Slot) (f : s ≡ slot_at q (place a)) (P : List ℕ) (g : P ≡ prefix_of q l) (c : ℕ) (d : c ≡ min h.prefix_len (length P)) where
-    slot_is : s ≡ slot_of q a
-    unfolding slot_of
-    slot_is = f
+  -- the last slot as it was read, and what is left of the source's entry without the page's prefix
+  module _ (some : h.count ≡ 0 → ⊥) (last : Slot) (e : last ≡ slot_at p (place (h.count - 1))) where
+    pub last-lies : LongLies (length p) last
+    last-lies = slot_lies p h.prefix_len F.shown (h.count - 1) (omega (arith, count-is)) last e
 
-    key-is : P ++ suffix_of q s ≡ key_at q (slot_of q a)
-    unfolding key_at
-    key-is = rw (prefix-own q l Q P g, slot_is)
-
-    skip-within : h.prefix_len - c ≤ s.len
-    unfolding has_prefix
-    skip-within =
-        let k = key_at q (slot_of q a) in
-        let m : min (frame_of p).prefix_len (length k) ≡ length (frame_of p).prefix =
-        sym (length-take (frame_of p).prefix_len k) ∙ ap length (same_list_eq (take (frame_of p).prefix_len k) (frame_of p).prefix held) in
-        let n = whole_length p h F (frame_of p).prefix (whole_is p h F) in
-        let o = gone-is p h F in
-        let r = length-key q l Q a there in
-        let t = prefix_long q l Q P g in
-        let u : (slot_of q a).len ≡ s.len = ap (λ (x : Slot). x.len) (sym slot_is) in
-        omega (arith, d)
-
-    pub last-lies : (LongLies (length p) last) × (LongLies (length q) s) × (h.prefix_len - c ≤ s.len)
-    last-lies =
-        (slot_lies p h.prefix_len F.shown (h.count - 1) (omega (arith, count-is)) last e, slot_lies q l Q a there s f, skip-within)
-
-    pub last-passed : (r : Bool) → r ≡ less (suffix_of p last) (take (length P - c) (drop c P) ++ drop (h.prefix_len - c) (suffix_of q s))
+    pub last-passed : (k rest : List ℕ) → k ≡ key_at q (slot_of q a) → rest ≡ drop h.prefix_len k → (r : Bool) → r ≡ less (suffix_of p last) rest
         → r ≡ passes_last p h.count (key_at q (slot_of q a))
-    unfolding passes_last less key_at slot_of
-    last-passed r k =
-        k
-        ∙ rw (ne_eqb h.count 0 some)
+    unfolding passes_last less slot_of
+    last-passed k rest K f r g =
+        g
+        ∙ rw (ne_eqb h.count 0 some, f, K)
         (ap is_lt
         (sym (order-append (frame_of p).prefix (suffix_of p last) _)
-        ∙ rw (take_all (length P - c) (drop c P) (rw length-drop (omega arith)), ← drop-two h.prefix_len P (suffix_of q s) c d, key-is, ← gone-is p h F, prefix_whole (frame_of p) (key_at q (slot_of q a)) held, e)))
+        ∙ rw (← gone-is p h F, prefix_whole (frame_of p) (key_at q (slot_of q a)) held, e)
+        (unfold key_at in refl)))
 
 -- ---- the entries of a run
 module _ (w : ℕ) (q : List ℕ) where
@@ -235,3 +205,9 @@ module _ (w : ℕ) (q : List ℕ) where
     above-run (suc n) a z h =
         rw (run-first a n (omega arith), length-map (listing w p) (λ (x : Entry). x.key), length-listing w p)
         (⊎_elim (λ e. rw (eq-eqb (numbers_of p).count 0 e)) (λ e. rw (ne_eqb (numbers_of p).count 0 e, keys-last e)) (alike? (numbers_of p).count 0))
+
+pub ruleset by_keys = (slot_lies, key-read, cut-within, stands-unlike, stands-lacks, stands-outside, stands-done)
+
+pub ruleset by_last = (slot_lies, key-read, last_none, last_within, last-lies, last-passed)
+
+pub ruleset by_needs = (need_is, needs-full, needs-on, needs_end)

@@ -1,10 +1,5 @@
 -- An edit's first tests: what is known of a page that passed them, and how a call goes on after them or is refused alike. Assumes nothing.
-use mathlib.Core.Path.{◌≡◌, refl, ◌∙◌}
-use mathlib.Core.Bool.{true, false}
-use mathlib.Core.List.{List, ◌++◌}
-use Prim.Native.Nat.{ℕ, ◌*◌, ◌≤◌}
-use native.Mathlib.Omega.{arith}
-use lib.ListN.{length}
+use Rattle.std.proofs.Common.{◌≡◌, refl, ◌∙◌, true, false, List, ◌++◌, ℕ, ◌*◌, ◌≤◌, arith, length, Ok, Err}
 use Rattle.octets.specs.Bytes.{le}
 use Rattle.paper.specs.Page.{frame_of, numbers_of, header_of, view_of}
 use Rattle.paper.specs.Verdicts.{fit_of}
@@ -21,7 +16,6 @@ use Rattle.search.proofs.Asked.{prefix_fits, slots-fit, prefix-read}
 use Rattle.verdict.specs.Fits.{fit_checks, fit_admit_of}
 use Rattle.verdict.proofs.Fitness.{fitted, fitted-judge, unfit-judge}
 use Rattle.edit.specs.Tested.{Tested}
-use Rattle.std.specs.Prelude.{Ok, Err}
 
 -- ---- the prefix, by its length m as it was read, and by the class c as a number
 module _ (p k : List ℕ) (m : ℕ) (e : m ≡ le 2 p 46) (c : ℕ) (f : c ≡ class_number (class_by p m k)) where

@@ -1,11 +1,6 @@
 -- A known width, and the values that it holds. Assumes nothing.
-use mathlib.Core.Path.{◌≡◌}
-use mathlib.Core.Bool.{true}
-use Prim.Native.Nat.{ℕ, ◌^◌, ◌≤◌, ◌<◌}
+use Rattle.std.proofs.Common.{◌≡◌, true, ℕ, ◌^◌, ◌≤◌, ◌<◌, arith, eqb-true, eq-eqb, ne_eqb, lt-ltb, le-ltb, ltb, eqb}
 use native.Mathlib.Decide.{dec_le}
-use native.Mathlib.Omega.{arith}
-use borrow.Author.Tests.{eqb-true, eq-eqb, ne_eqb, lt-ltb, le-ltb}
-use lib.Dec.{ltb, eqb}
 use Rattle.paper.specs.Calls.{is_width, fits_width}
 
 -- above 1 it is 8
@@ -36,3 +31,5 @@ module _ (w v : ℕ) where
   pub fits_all : is_width w ≡ true → (w ≡ 0 → ⊥) → (w ≡ 1 → ⊥) → v < 2 ^ 64 → fits_width w v ≡ true
   unfolding fits_width
   fits_all e f g l = rw (eight w e f g) (lt-ltb v (256 ^ 8) (omega arith))
+
+pub ruleset widths = (fits-none, fits_byte, fits_all)

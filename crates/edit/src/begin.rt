@@ -1,80 +1,88 @@
 // Begin: two fences make a page without entries.
-ghost use Rattle.std.specs.Prelude.{◌≡◌, ◌+◌, ◌-◌, ◌≤◌, length};
+ghost use Rattle.std.specs.Prelude.{◌≡◌, ◌-◌, ◌≤◌, length};
 ghost use Rattle.keys.specs.Keys.{common};
 ghost use Rattle.paper.specs.Space.{fence_bytes};
 ghost use Rattle.paper.specs.Edits.{put_all, begun};
 ghost use Rattle.paper.specs.Calls.{begin_of, begin_page};
-ghost use Rattle.edit.specs.Begins.{given, slot_fields, front_fields, tail_fields, header_fields, ordered, flag_number, begin_header};
+ghost use Rattle.edit.specs.Begins.{given, front_fields, tail_fields, header_fields, ordered, begin_header};
 
 use crate::fences;
 use crate::fences::Fences;
 use keys::shared;
 use node::{key, space};
 use octets::number;
-use paper::page::{Header, Slot};
+use paper::page::Header;
 use paper::refusal::Refusal;
+use std::marker::Model;
+use write::slot;
 
-// Whether the upper fence bounds nothing, or the lower one is below it.
-fn in_order(lower: &[u8], upper: &[u8]) -> bool
-    ensures { result ≡ ordered lower.now upper.now }
-{
-    if upper.len() == 0 {
-        return true;
-    }
-    key::below(lower, upper)
-}
-
-// The hints flag as the header has it.
-fn flag_number(flag: bool) -> u8
-    ensures { result ≡ flag_number flag }
-{
-    if flag {
-        return 1;
-    }
-    0
-}
-
-// The header of a page that begins: no entries, the values given, and what its fences say.
-fn begin_header(
+// What a page is begun with.
+#[derive(Drop)]
+struct Beginning<'a> {
     height: u16,
     timestamp: u64,
+    lower: &'a [u8],
     lower_value: u64,
+    upper: &'a [u8],
     flag: bool,
-    prefix_len: u16,
-    f: Fences,
-) -> Header
-    requires { f.end ≤ 16256 }
-    ensures { result ≡ begin_header height timestamp lower_value flag prefix_len f }
-{
-    let lower = f.lower;
-    let upper = f.upper;
-    Header {
-        height,
-        count: 0,
-        start: 0,
-        end: f.end,
-        timestamp,
-        lower,
-        lower_value,
-        upper,
-        effective: 16352 - (f.end as u32),
-        initialized: 1,
-        flag: flag_number(flag),
-        prefix_len,
-    }
 }
 
-// The three fields of a slot.
-fn write_fence(p: &mut [u8], at: usize, s: Slot)
-    requires { at + 8 ≤ length p.old }
-    ensures { p.new ≡ put_all p.old (slot_fields at s) }
-{
-    number::write_u16(p, at, s.len);
-    number::write_u16(p, at + 2, s.offset);
-    number::write_u32(p, at + 4, s.head);
+impl<'a> Model for Beginning<'a> {
+    ghost use Rattle.paper.specs.Edits.{Begin};
+    ghost use Rattle.edit.specs.Begins.{given};
+
+    ghost Value = { Begin };
+
+    ghost view = { λ s. given s.height s.timestamp s.lower.now s.lower_value s.upper.now s.flag };
+}
+
+impl<'a> Beginning<'a> {
+    // Whether the upper fence bounds nothing, or the lower one is below it.
+    #[tactic(auto, using(crate::proofs::Begun::by_order))]
+    fn in_order(&self) -> bool
+        ensures { result ≡ ordered self.now.lower self.now.upper }
+    {
+        self.upper.is_empty() || key::below(self.lower, self.upper)
+    }
+
+    // The header: no entries, the values given, and what the fences say.
+    #[tactic(auto, unfolding(crate::specs::Begins::begin_header, crate::specs::Begins::flag_number, keys::specs::Choice::pick))]
+    fn header(&self, prefix_len: u16, f: Fences) -> Header
+        requires { f.end ≤ 16256 }
+        ensures { result ≡ begin_header self.now.height self.now.timestamp self.now.lower_value self.now.flag prefix_len f }
+    {
+        let lower = f.lower;
+        let upper = f.upper;
+        Header {
+            height: self.height,
+            count: 0,
+            start: 0,
+            end: f.end,
+            timestamp: self.timestamp,
+            lower,
+            lower_value: self.lower_value,
+            upper,
+            effective: 16352 - (f.end as u32),
+            initialized: 1,
+            flag: u8::from(self.flag),
+            prefix_len,
+        }
+    }
+
+    // Writes the page of two fences that share `n` bytes: their runs, the header, and the inline prefix.
+    fn write(&self, p: &mut [u8], n: usize)
+        requires { (16384 ≤ length p.old) × (length self.now.lower ≤ 65535) × (length self.now.upper ≤ 65535) × (n ≡ common self.now.lower self.now.upper) × (fence_bytes n (length self.now.lower - n) (length self.now.upper - n) ≤ 16256) }
+        ensures { p.new ≡ begun p.old self.now }
+    {
+        let prefix = &self.lower[..n];
+        let f = fences::put_fences(p, prefix, &self.lower[n..], &self.upper[n..]);
+        write_header(p, self.header(n as u16, f));
+        fences::put_inline(p, prefix);
+    }
 }
 
 // The fields before the fences.
+#[tactic(auto, unfolding(paper::specs::Edits::put_all, crate::specs::Begins::front_fields))]
 fn write_front(p: &mut [u8], h: Header)
     requires { 96 ≤ length p.old }
     ensures { p.new ≡ put_all p.old (front_fields h) }
@@ -87,6 +95,7 @@ fn write_front(p: &mut [u8], h: Header)
 }
 
 // The fields after the fences.
+#[tactic(auto, unfolding(paper::specs::Edits::put_all, crate::specs::Begins::tail_fields))]
 fn write_tail(p: &mut [u8], h: Header)
     requires { 96 ≤ length p.old }
     ensures { p.new ≡ put_all p.old (tail_fields h) }
@@ -103,33 +112,10 @@ fn write_header(p: &mut [u8], h: Header)
     ensures { p.new ≡ put_all p.old (header_fields h) }
 {
     write_front(p, h);
-    write_fence(p, 16, h.lower);
+    slot::write_slot(p, 16, h.lower);
     number::write_u64(p, 24, h.lower_value);
-    write_fence(p, 32, h.upper);
+    slot::write_slot(p, 32, h.upper);
     write_tail(p, h);
-}
-
-// Writes the page of two fences that share `n` bytes: their runs, the header, and the inline prefix.
-fn begin_at(
-    p: &mut [u8],
-    height: u16,
-    timestamp: u64,
-    lower: &[u8],
-    lower_value: u64,
-    upper: &[u8],
-    flag: bool,
-    n: usize,
-)
-    requires { (16384 ≤ length p.old) × (length lower.now ≤ 65535) × (length upper.now ≤ 65535) × (n ≡ common lower.now upper.now) × (fence_bytes n (length lower.now - n) (length upper.now - n) ≤ 16256) }
-    ensures { p.new ≡ begun p.old (given height timestamp lower.now lower_value upper.now flag) }
-{
-    let prefix = &lower[..n];
-    let f = fences::put_fences(p, prefix, &lower[n..], &upper[n..]);
-    write_header(
-        p,
-        begin_header(height, timestamp, lower_value, flag, n as u16, f),
-    );
-    fences::put_inline(p, prefix);
 }
 
 // Makes of `p` a page without entries between two fences; all bytes that are not named keep their old content. Refuses 1, 3,
@@ -149,19 +135,24 @@ pub fn begin(
     if p.len() != 16384 {
         return Err(Refusal::PageLength);
     }
-    if 65535 < lower.len() {
+    if 65535 < lower.len() || 65535 < upper.len() {
         return Err(Refusal::KeyLength);
     }
-    if 65535 < upper.len() {
-        return Err(Refusal::KeyLength);
-    }
-    if !in_order(lower, upper) {
+    let beginning = Beginning {
+        height,
+        timestamp,
+        lower,
+        lower_value,
+        upper,
+        flag,
+    };
+    if !beginning.in_order() {
         return Err(Refusal::FenceOrder);
     }
     let n = shared::common_prefix_len(lower, upper);
     if 16256 < space::fence_bytes(n, lower.len() - n, upper.len() - n) {
         return Err(Refusal::NoRoom);
     }
-    begin_at(p, height, timestamp, lower, lower_value, upper, flag, n);
+    beginning.write(p, n);
     Ok(())
 }

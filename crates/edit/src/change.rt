@@ -1,4 +1,4 @@
-// Change key.
+// Change key. Page, header and width stay parameters for the reason that stands in insert.rt.
 ghost use Rattle.std.specs.Prelude.{◌≡◌, true, ◌+◌, ◌*◌, ◌≤◌, length};
 ghost use Rattle.paper.specs.Page.{header_of};
 ghost use Rattle.paper.specs.Verdicts.{fit_of};
@@ -14,6 +14,7 @@ use verdict::fit;
 use write::change;
 
 // Whether the free space takes the new payload of a suffix for slot `i`, where it needs one.
+#[tactic(auto, using(crate::proofs::Changes::by_room))]
 fn has_room(p: &[u8], h: Header, width: u8, i: usize, suffix: &[u8]) -> bool
     requires { (h ≡ header_of p.now) × (h.start ≤ h.end) × (104 + 8 * i ≤ length p.now) }
     ensures { result ≡ room_for_key width p.now i suffix.now }
@@ -25,6 +26,7 @@ fn has_room(p: &[u8], h: Header, width: u8, i: usize, suffix: &[u8]) -> bool
 }
 
 // Whether slot `i` of a page that is fit and has this header may take the key. Refuses 8, 9, 10, 12, 13.
+#[tactic(auto, using(crate::proofs::Changes::by_tests))]
 fn judge(p: &[u8], h: Header, width: u8, i: usize, key: &[u8]) -> Result<(), Refusal>
     requires { (length p.now ≡ 16384) × (fit_of width p.now ≡ 0) × (h ≡ header_of p.now) }
     ensures { result ≡ change_with width p.now i key.now }

@@ -1,189 +1,161 @@
 // Run copy: entries of one page appended to another.
-ghost use Rattle.std.specs.Prelude.{◌≡◌, true, ◌++◌, ◌+◌, ◌-◌, ◌≤◌, ◌<◌, leb, length, drop};
-ghost use Rattle.paper.specs.Lists.{less};
-ghost use Rattle.paper.specs.Page.{slot_of, suffix_of, frame_of, numbers_of, header_of};
+ghost use Rattle.std.specs.Prelude.{◌≡◌, true, ◌+◌, ◌-◌, ◌≤◌, ◌<◌, leb, length};
+ghost use Rattle.paper.specs.Page.{slot_of, frame_of, numbers_of, header_of};
 ghost use Rattle.paper.specs.Space.{need};
 ghost use Rattle.paper.specs.Verdicts.{fit_of};
 ghost use Rattle.paper.specs.Calls.{is_width, has_prefix, key_at, run_of, run_page};
-ghost use Rattle.search.specs.Fence.{LongLies};
 ghost use Rattle.edit.specs.RunTests.{Shown, Fenced, Meeting, standing, standing_from, passes_last, needs_from, run_judged, run_written};
 
-use crate::cut;
+use crate::cut::Pieces;
 use keys::shared;
 use node::{admit, header, key, space};
-use paper::page::{Header, Slot};
+use paper::page::Header;
 use paper::refusal::Refusal;
 use verdict::fit;
 use write::copy;
 
-// 8 and 9 for the source's prefix and the suffix of one of its slots.
-fn slot_stands(
-    p: &[u8],
-    h: Header,
-    q: &[u8],
-    s: Slot,
-    prefix: &[u8],
+// Two pages whose keys can be read, on the way from `source` to `page`: the header of the one and the prefix of the other. `cut` is the
+// length of the shorter of both pages' prefixes, and `alike` says whether the two are the same that far.
+#[derive(Drop)]
+struct Run<'a> {
+    page: &'a [u8],
+    header: Header,
+    source: &'a [u8],
+    prefix: &'a [u8],
     cut: usize,
     alike: bool,
-) -> Result<(), Refusal>
-    requires { (Fenced p.now h) × (Meeting p.now h prefix.now cut alike) × (LongLies (length q.now) s) }
-    ensures { result ≡ standing p.now (prefix.now ++ suffix_of q.now s) }
-{
-    let n = s.len as usize;
-    if n <= 4 {
-        let four = key::head_bytes(s.head);
-        return cut::stands(p, h, prefix, cut, alike, &four[..n]);
-    }
-    let start = 96 + (s.offset as usize);
-    cut::stands(p, h, prefix, cut, alike, &q[start..start + n])
+    ghost fenced: { Fenced page.now header },
+    ghost shown: { Shown source.now (length prefix.now) },
+    ghost own: { prefix.now ≡ (frame_of source.now).prefix },
+    ghost meeting: { Meeting page.now header prefix.now cut alike },
 }
 
-// 8 and 9 entry by entry: the first one refused decides. `cut` and `alike` say how both pages' prefixes go together.
-fn stand_from(
-    p: &[u8],
-    h: Header,
-    q: &[u8],
-    prefix: &[u8],
-    cut: usize,
-    alike: bool,
-    a: usize,
-    n: usize,
-) -> Result<(), Refusal>
-    requires { (Fenced p.now h) × (Meeting p.now h prefix.now cut alike) × (prefix.now ≡ (frame_of q.now).prefix) × (Shown q.now (frame_of q.now).prefix_len) × (a + n ≤ (numbers_of q.now).count) }
-    ensures { result ≡ standing_from p.now q.now a n }
-{
-    let end = a + n;
-    let mut j = a;
-    while j < end {
-        let s = header::read_slot(q, 96 + 8 * j);
-        slot_stands(p, h, q, s, prefix, cut, alike)?;
-        j += 1;
-    }
-    Ok(())
-}
-
-// The same: both pages' prefixes are compared once, as far as the shorter goes.
-fn entries_stand(
-    p: &[u8],
-    h: Header,
-    q: &[u8],
-    prefix_len: u16,
-    a: usize,
-    n: usize,
-) -> Result<(), Refusal>
-    requires { (Fenced p.now h) × (Shown q.now prefix_len) × (a + n ≤ (numbers_of q.now).count) }
-    ensures { result ≡ standing_from p.now q.now a n }
-{
-    let prefix = key::prefix(q, prefix_len);
-    let whole = key::prefix(p, h.prefix_len);
-    let cut = copy::least(whole.len(), prefix.len());
-    let alike = shared::equal(&prefix[..cut], &whole[..cut]);
-    stand_from(p, h, q, prefix, cut, alike, a, n)
-}
-
-// Whether the source's prefix without its first bytes, and the suffix of one of its slots without `skip` bytes, are above a slot of `p`.
-fn pieces_above(p: &[u8], last: Slot, lead: &[u8], q: &[u8], s: Slot, skip: usize) -> bool
-    requires { (LongLies (length p.now) last) × (LongLies (length q.now) s) × (skip ≤ s.len) }
-    ensures { result ≡ less (suffix_of p.now last) (lead.now ++ drop skip (suffix_of q.now s)) }
-{
-    let n = s.len as usize;
-    if n <= 4 {
-        let four = key::head_bytes(s.head);
-        return cut::above_slot(p, last, lead, &four[skip..n]);
-    }
-    let start = 96 + (s.offset as usize);
-    cut::above_slot(p, last, lead, &q[start + skip..start + n])
-}
-
-// 12 for entry `a` of the source, whose key has the destination's prefix.
-fn above_last(p: &[u8], h: Header, q: &[u8], prefix_len: u16, a: usize) -> bool
-    requires { (Fenced p.now h) × (Shown q.now prefix_len) × (a < (numbers_of q.now).count) × (has_prefix (frame_of p.now) (key_at q.now (slot_of q.now a)) ≡ true) }
-    ensures { result ≡ passes_last p.now h.count (key_at q.now (slot_of q.now a)) }
-{
-    if h.count == 0 {
-        return true;
-    }
-    let last = header::read_slot(p, 96 + 8 * ((h.count as usize) - 1));
-    let s = header::read_slot(q, 96 + 8 * a);
-    let prefix = key::prefix(q, prefix_len);
-    let gone = h.prefix_len as usize;
-    let cut = copy::least(gone, prefix.len());
-    pieces_above(p, last, &prefix[cut..], q, s, gone - cut)
-}
-
-// 13: whether `n` entries of the source have room in `free` bytes, where keys have `prefix_len` bytes before their suffix and lose `gone`.
-fn run_fits(
-    free: usize,
-    width: u8,
-    gone: u16,
-    q: &[u8],
-    prefix_len: u16,
-    a: usize,
-    n: usize,
-) -> bool
-    requires { (Shown q.now prefix_len) × (a + n ≤ (numbers_of q.now).count) }
-    ensures { result ≡ leb (needs_from width gone prefix_len q.now a n) free }
-{
-    let end = a + n;
-    let mut left = free;
-    let mut j = a;
-    while j < end {
-        let need = entry_need(width, gone, q, prefix_len, j);
-        if left < need {
-            return false;
+impl<'a> Run<'a> {
+    // Both prefixes are compared once, as far as the shorter goes.
+    fn between(page: &'a [u8], header: Header, source: &'a [u8], prefix_len: u16) -> Run<'a>
+        requires { (Fenced page.now header) × (Shown source.now prefix_len) }
+        ensures { (result.page.now ≡ page.now) × (result.header ≡ header) × (result.source.now ≡ source.now) }
+    {
+        let prefix = key::prefix(source, prefix_len);
+        let whole = key::prefix(page, header.prefix_len);
+        let cut = whole.len().min(prefix.len());
+        let alike = shared::equal(&prefix[..cut], &whole[..cut]);
+        Run {
+            page,
+            header,
+            source,
+            prefix,
+            cut,
+            alike,
         }
-        left -= need;
-        j += 1;
     }
-    true
+
+    // 8 and 9 for entry `j` of the source.
+    #[tactic(auto, using(crate::proofs::RunKeys::by_keys))]
+    fn stands(&self, j: usize) -> Result<(), Refusal>
+        requires { j < (numbers_of self.now.source.now).count }
+        ensures { result ≡ standing self.now.page.now (key_at self.now.source.now (slot_of self.now.source.now j)) }
+    {
+        if !self.alike {
+            return Err(Refusal::Prefix);
+        }
+        let s = header::read_slot(self.source, 96 + 8 * j);
+        let four = key::head_bytes(s.head);
+        let suffix = key::suffix(self.source, s, &four);
+        let whole = key::prefix(self.page, self.header.prefix_len);
+        if !shared::begins_with(suffix, &whole[self.cut..]) {
+            return Err(Refusal::Prefix);
+        }
+        if !Pieces::cut(self.prefix, suffix, whole.len()).inside(self.page, self.header) {
+            return Err(Refusal::OutsideFences);
+        }
+        Ok(())
+    }
+
+    // The same for `n` entries from `a` on: the first one refused decides.
+    fn all_stand(&self, a: usize, n: usize) -> Result<(), Refusal>
+        requires { a + n ≤ (numbers_of self.now.source.now).count }
+        ensures { result ≡ standing_from self.now.page.now self.now.source.now a n }
+    {
+        for j in a..a + n {
+            self.stands(j)?;
+        }
+        Ok(())
+    }
+
+    // 12 for entry `a` of the source, whose key has the page's prefix.
+    #[tactic(auto, using(crate::proofs::RunKeys::by_last))]
+    fn above_last(&self, a: usize) -> bool
+        requires { (a < (numbers_of self.now.source.now).count) × (has_prefix (frame_of self.now.page.now) (key_at self.now.source.now (slot_of self.now.source.now a)) ≡ true) }
+        ensures { result ≡ passes_last self.now.page.now self.now.header.count (key_at self.now.source.now (slot_of self.now.source.now a)) }
+    {
+        let count = self.header.count as usize;
+        if count == 0 {
+            return true;
+        }
+        let last = header::read_slot(self.page, 96 + 8 * (count - 1));
+        let s = header::read_slot(self.source, 96 + 8 * a);
+        let four = key::head_bytes(s.head);
+        let suffix = key::suffix(self.source, s, &four);
+        let gone = self.header.prefix_len as usize;
+        Pieces::cut(self.prefix, suffix, gone).above(self.page, last)
+    }
+
+    // What entry `j` of the source needs on the page.
+    #[tactic(auto, using(crate::proofs::RunKeys::by_needs))]
+    fn need(&self, width: u8, j: usize) -> usize
+        requires { j < (numbers_of self.now.source.now).count }
+        ensures { result ≡ need width (length self.now.prefix.now + (slot_of self.now.source.now j).len - self.now.header.prefix_len) }
+    {
+        let s = header::read_slot(self.source, 96 + 8 * j);
+        let len = self.prefix.len() + (s.len as usize);
+        8 + (width as usize)
+            + space::body_bytes(4, len.saturating_sub(self.header.prefix_len as usize))
+    }
+
+    // 13: whether `n` entries from `a` on have room in the page's free space.
+    #[tactic(auto, using(crate::proofs::RunKeys::by_needs))]
+    fn fits(&self, width: u8, a: usize, n: usize) -> bool
+        requires { (self.now.header.start ≤ self.now.header.end) × (a + n ≤ (numbers_of self.now.source.now).count) }
+        ensures { result ≡ leb (needs_from width self.now.header.prefix_len (length self.now.prefix.now) self.now.source.now a n) (self.now.header.end - self.now.header.start) }
+    {
+        let mut left = (self.header.end - self.header.start) as usize;
+        for j in a..a + n {
+            let need = self.need(width, j);
+            if left < need {
+                return false;
+            }
+            left -= need;
+        }
+        true
+    }
+
+    // 10, 8, 9, 12 and 13 in this order, of a source with `count` entries.
+    #[tactic(auto, using(crate::proofs::RunCalls::by_tests))]
+    fn judge(&self, count: u16, width: u8, a: usize, n: usize) -> Result<(), Refusal>
+        requires { (count ≡ (numbers_of self.now.source.now).count) × (self.now.header.start ≤ self.now.header.end) }
+        ensures { result ≡ run_judged width self.now.page.now self.now.source.now a n }
+    {
+        let count = count as usize;
+        if count < a || count - a < n {
+            return Err(Refusal::SlotNumber);
+        }
+        if n == 0 {
+            return Ok(());
+        }
+        self.all_stand(a, n)?;
+        if !self.above_last(a) {
+            return Err(Refusal::Neighbours);
+        }
+        if !self.fits(width, a, n) {
+            return Err(Refusal::NoRoom);
+        }
+        Ok(())
+    }
 }
 
-// What entry `j` of the source needs.
-fn entry_need(width: u8, gone: u16, q: &[u8], prefix_len: u16, j: usize) -> usize
-    requires { (Shown q.now prefix_len) × (j < (numbers_of q.now).count) }
-    ensures { result ≡ need width (prefix_len + (slot_of q.now j).len - gone) }
-{
-    let s = header::read_slot(q, 96 + 8 * j);
-    let whole = (prefix_len as usize) + (s.len as usize);
-    let cut = copy::least(gone as usize, whole);
-    8 + (width as usize) + space::body_bytes(4, whole - cut)
-}
-
-// 10, 8, 9, 12 and 13 in this order, of two pages that are fit and have these headers.
-fn judge_run(
-    p: &[u8],
-    h: Header,
-    q: &[u8],
-    g: Header,
-    width: u8,
-    a: usize,
-    n: usize,
-) -> Result<(), Refusal>
-    requires { (Fenced p.now h) × (Shown q.now g.prefix_len) × (g ≡ header_of q.now) × (h.start ≤ h.end) }
-    ensures { result ≡ run_judged width p.now q.now a n }
-{
-    let count = g.count as usize;
-    if count < a {
-        return Err(Refusal::SlotNumber);
-    }
-    if count - a < n {
-        return Err(Refusal::SlotNumber);
-    }
-    if n == 0 {
-        return Ok(());
-    }
-    entries_stand(p, h, q, g.prefix_len, a, n)?;
-    if !above_last(p, h, q, g.prefix_len, a) {
-        return Err(Refusal::Neighbours);
-    }
-    let free = (h.end as usize) - (h.start as usize);
-    if !run_fits(free, width, h.prefix_len, q, g.prefix_len, a, n) {
-        return Err(Refusal::NoRoom);
-    }
-    Ok(())
-}
-
-// The same two pages: judged, and then the entries are written.
+// Two pages that are fit and have these headers: judged, and then the entries are written.
+// They stay parameters: the run that judges only reads the page that is written here.
 fn copy_fit(
     p: &mut [u8],
     h: Header,
@@ -198,7 +170,7 @@ fn copy_fit(
     ensures value { result ≡ run_judged width p.old q.now a n }
     ensures p_after { p.new ≡ run_written width p.old q.now a n }
 {
-    judge_run(p, h, q, g, width, a, n)?;
+    Run::between(p, h, q, g.prefix_len).judge(g.count, width, a, n)?;
     copy::copy_run(p, h, width, q, g.prefix_len, a, n);
     Ok(())
 }

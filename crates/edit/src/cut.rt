@@ -1,96 +1,89 @@
-// A source key, in two pieces: where it stands to the destination's prefix, fences and slots. No key is put together.
-ghost use Rattle.std.specs.Prelude.{◌≡◌, ◌++◌, length};
+// A key in two pieces, one after the other: where a source key, cut anew, stands to fences and slots. No key is put together.
+ghost use Rattle.std.specs.Prelude.{◌≡◌, ◌++◌, length, drop};
 ghost use Rattle.keys.specs.Keys.{order};
 ghost use Rattle.paper.specs.Lists.{less};
 ghost use Rattle.paper.specs.Page.{suffix_of};
 ghost use Rattle.search.specs.Fence.{LongLies, inside_by};
-ghost use Rattle.edit.specs.RunTests.{Fenced, Meeting, standing};
 
 use keys::shared;
 use node::key;
 use paper::page::{Header, Slot};
-use paper::refusal::Refusal;
 use std::cmp::Ordering;
+use std::marker::Model;
 
-// How a key in two pieces stands to another key.
-fn order_two(lead: &[u8], rest: &[u8], other: &[u8]) -> Ordering
-    ensures { result ≡ order (lead.now ++ rest.now) other.now }
-{
-    let n = shared::common_prefix_len(lead, other);
-    if n < lead.len() {
-        return shared::order_by_shared(lead, other);
-    }
-    shared::order_by_shared(rest, &other[n..])
+// A clause sees the bytes of both pieces.
+#[derive(Drop)]
+pub(crate) struct Pieces<'a> {
+    lead: &'a [u8],
+    rest: &'a [u8],
 }
 
-// How it stands to the suffix of a slot: a short one's bytes are its head's.
-fn order_slot(p: &[u8], s: Slot, lead: &[u8], rest: &[u8]) -> Ordering
-    requires { LongLies (length p.now) s }
-    ensures { result ≡ order (lead.now ++ rest.now) (suffix_of p.now s) }
-{
-    let n = s.len as usize;
-    if n <= 4 {
-        let four = key::head_bytes(s.head);
-        return order_two(lead, rest, &four[..n]);
-    }
-    let start = 96 + (s.offset as usize);
-    order_two(lead, rest, &p[start..start + n])
+impl<'a> Model for Pieces<'a> {
+    ghost use Rattle.std.specs.Prelude.{ℕ, List, ◌++◌};
+
+    ghost Value = { List ℕ };
+
+    ghost view = { λ s. s.lead.now ++ s.rest.now };
 }
 
-// Whether it is below the suffix of a slot.
-#[tactic(auto, unfolding(paper::specs::Lists::less))]
-fn below_slot(p: &[u8], s: Slot, lead: &[u8], rest: &[u8]) -> bool
-    requires { LongLies (length p.now) s }
-    ensures { result ≡ less (lead.now ++ rest.now) (suffix_of p.now s) }
-{
-    order_slot(p, s, lead, rest).is_lt()
-}
+impl<'a> Pieces<'a> {
+    // A key in two pieces without its first `gone` bytes.
+    pub(crate) fn cut(lead: &'a [u8], rest: &'a [u8], gone: usize) -> Pieces<'a>
+        ensures { result ≡ drop gone (lead.now ++ rest.now) }
+    {
+        let first = gone.min(lead.len());
+        let second = (gone - first).min(rest.len());
+        Pieces {
+            lead: &lead[first..],
+            rest: &rest[second..],
+        }
+    }
 
-// Whether it is above the suffix of a slot.
-pub(crate) fn above_slot(p: &[u8], s: Slot, lead: &[u8], rest: &[u8]) -> bool
-    requires { LongLies (length p.now) s }
-    ensures { result ≡ less (suffix_of p.now s) (lead.now ++ rest.now) }
-{
-    order_slot(p, s, lead, rest).is_gt()
-}
+    // How it stands to another key.
+    #[tactic(auto, using(crate::proofs::Cuts::by_pieces))]
+    fn order(&self, other: &[u8]) -> Ordering
+        ensures { result ≡ order self.now other.now }
+    {
+        let n = shared::common_prefix_len(self.lead, other);
+        if n < self.lead.len() {
+            return shared::order_by_shared(self.lead, other);
+        }
+        shared::order_by_shared(self.rest, &other[n..])
+    }
 
-// Whether it lies inside the fences of a page with this header.
-fn inside_two(p: &[u8], h: Header, lead: &[u8], rest: &[u8]) -> bool
-    requires { LongLies (length p.now) h.lower × LongLies (length p.now) h.upper }
-    ensures { result ≡ inside_by p.now h (lead.now ++ rest.now) }
-{
-    if below_slot(p, h.lower, lead, rest) {
-        return false;
+    // How it stands to the suffix of a slot.
+    fn order_slot(&self, p: &[u8], s: Slot) -> Ordering
+        requires { LongLies (length p.now) s }
+        ensures { result ≡ order self.now (suffix_of p.now s) }
+    {
+        self.order(key::suffix(p, s, &key::head_bytes(s.head)))
     }
-    if h.upper.len == 0 {
-        return true;
-    }
-    below_slot(p, h.upper, lead, rest)
-}
 
-// 8 and 9 for a source's prefix and a suffix behind it. `cut` is the length of the shorter of both pages' prefixes, and `alike` says whether the two
-// are the same that far.
-pub(crate) fn stands(
-    p: &[u8],
-    h: Header,
-    prefix: &[u8],
-    cut: usize,
-    alike: bool,
-    suffix: &[u8],
-) -> Result<(), Refusal>
-    requires { (Fenced p.now h) × (Meeting p.now h prefix.now cut alike) }
-    ensures { result ≡ standing p.now (prefix.now ++ suffix.now) }
-{
-    if !alike {
-        return Err(Refusal::Prefix);
+    // Whether it is below the suffix of a slot.
+    #[tactic(auto, unfolding(paper::specs::Lists::less))]
+    fn below(&self, p: &[u8], s: Slot) -> bool
+        requires { LongLies (length p.now) s }
+        ensures { result ≡ less self.now (suffix_of p.now s) }
+    {
+        self.order_slot(p, s).is_lt()
     }
-    let whole = key::prefix(p, h.prefix_len);
-    let wanted = &whole[cut..];
-    if !shared::begins_with(suffix, wanted) {
-        return Err(Refusal::Prefix);
+
+    // Whether it is above the suffix of a slot.
+    pub(crate) fn above(&self, p: &[u8], s: Slot) -> bool
+        requires { LongLies (length p.now) s }
+        ensures { result ≡ less (suffix_of p.now s) self.now }
+    {
+        self.order_slot(p, s).is_gt()
     }
-    if !inside_two(p, h, &prefix[cut..], &suffix[wanted.len()..]) {
-        return Err(Refusal::OutsideFences);
+
+    // Whether it lies inside the fences of a page with this header.
+    pub(crate) fn inside(&self, p: &[u8], h: Header) -> bool
+        requires { LongLies (length p.now) h.lower × LongLies (length p.now) h.upper }
+        ensures { result ≡ inside_by p.now h self.now }
+    {
+        if self.below(p, h.lower) {
+            return false;
+        }
+        h.upper.len == 0 || self.below(p, h.upper)
     }
-    Ok(())
 }

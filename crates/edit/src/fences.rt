@@ -33,6 +33,7 @@ fn put_below(p: &mut [u8], most: usize, end: usize, run: &[u8]) -> usize
 }
 
 // The slot of a fence's suffix: a short one has offset 0, a long one stands at `at`.
+#[tactic(auto, using(crate::proofs::BegunRuns::by_length))]
 fn fence_slot(suffix: &[u8], at: usize) -> Slot
     requires { (length suffix.now ≤ 65535) × (at ≤ 65535) }
     ensures { result ≡ fence_slot suffix.now at }

@@ -1,12 +1,12 @@
 // Insert: an entry filed where its key belongs.
+// Page, width and key stay parameters with `Tested`: a struct that lends the page to a write would owe its fit again after the write.
 ghost use Rattle.std.specs.Prelude.{◌≡◌, ◌≤◌, length, Ok};
 ghost use Rattle.paper.specs.Calls.{insert_of, insert_page};
 ghost use Rattle.edit.specs.Tested.{Tested};
 ghost use Rattle.edit.specs.Inserts.{insert_with, inserted_with, room_with, place_by};
 ghost use Rattle.paper.specs.declared.refusal.Refusal.{Refusal};
-ghost use Rattle.paper.specs.declared.page.Slot.{Slot};
 ghost use Rattle.paper.specs.declared.answers.Found.{Found};
-ghost use Rattle.paper.specs.declared.answers.Found.TheVariants.{Equal, Smaller};
+ghost use Rattle.paper.specs.declared.answers.Found.TheVariants.{Smaller};
 
 use crate::values;
 use node::space;
@@ -18,6 +18,7 @@ use verdict::fit;
 use write::insert;
 
 // Whether there is room from start to end for an entry whose suffix has `n` bytes.
+#[tactic(auto, using(crate::proofs::Inserted::room_is))]
 fn has_room(start: u16, end: u16, width: u8, n: usize) -> bool
     requires { (start ≤ end) × (n ≤ 65535) }
     ensures { result ≡ room_with width start end n }
@@ -26,6 +27,7 @@ fn has_room(start: u16, end: u16, width: u8, n: usize) -> bool
 }
 
 // The slot for a key, by what a search found: 11, 13.
+#[tactic(auto, unfolding(crate::specs::Inserts::place_by, keys::specs::Choice::pick))]
 fn place_by(room: bool, f: Found) -> Result<usize, Refusal>
     ensures { result ≡ place_by room (Ok f) }
 {
@@ -39,6 +41,7 @@ fn place_by(room: bool, f: Found) -> Result<usize, Refusal>
 }
 
 // The slot for a key on a page that is fit: 7, 8, 9, 11, 13.
+#[tactic(auto, using(crate::proofs::Inserted::by_place))]
 fn place(p: &[u8], width: u8, key: &[u8], value: u64) -> Result<usize, Refusal>
     requires { Tested width p.now (length key.now) }
     ensures { result ≡ insert_with width p.now key.now value }

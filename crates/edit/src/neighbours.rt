@@ -9,21 +9,16 @@ use node::{header, key};
 use paper::page::Slot;
 use search::fence;
 
-// Whether the suffix of a slot is below another suffix: a short one's bytes are its head's.
+// Whether the suffix of a slot is below another suffix.
 fn slot_below(p: &[u8], s: Slot, suffix: &[u8]) -> bool
     requires { LongLies (length p.now) s }
     ensures { result ≡ less (suffix_of p.now s) suffix.now }
 {
-    let n = s.len as usize;
-    if n <= 4 {
-        let four = key::head_bytes(s.head);
-        return key::below(&four[..n], suffix);
-    }
-    let start = 96 + (s.offset as usize);
-    key::below(&p[start..start + n], suffix)
+    key::below(key::suffix(p, s, &key::head_bytes(s.head)), suffix)
 }
 
 // Whether a suffix is above that of the slot before slot `i`, if there is one.
+#[tactic(auto, using(crate::proofs::Neighbouring::by_neighbours))]
 fn above_previous(p: &[u8], i: usize, suffix: &[u8]) -> bool
     requires { (96 + 8 * i ≤ length p.now) × Lying p.now i }
     ensures { result ≡ above_previous p.now i suffix.now }
@@ -35,6 +30,7 @@ fn above_previous(p: &[u8], i: usize, suffix: &[u8]) -> bool
 }
 
 // Whether a suffix is below that of the slot after slot `i`, if there is one.
+#[tactic(auto, using(crate::proofs::Neighbouring::by_neighbours))]
 fn below_next(p: &[u8], count: u16, i: usize, suffix: &[u8]) -> bool
     requires { (i < count) × (96 + 8 * count ≤ length p.now) × Lying p.now count }
     ensures { result ≡ below_next p.now count i suffix.now }
@@ -46,6 +42,7 @@ fn below_next(p: &[u8], count: u16, i: usize, suffix: &[u8]) -> bool
 }
 
 // Whether a suffix stands strictly between those of the slots before and after slot `i`.
+#[tactic(auto, using(crate::proofs::Neighbouring::by_neighbours))]
 pub(crate) fn between(p: &[u8], count: u16, i: usize, suffix: &[u8]) -> bool
     requires { (i < count) × (96 + 8 * count ≤ length p.now) × Lying p.now count }
     ensures { result ≡ between_by p.now count i suffix.now }

@@ -16,6 +16,7 @@ use verdict::fit;
 use write::set;
 
 // Slot `i` where its value is the expected one: 18.
+#[tactic(auto, using(crate::proofs::Replaced::by_slot))]
 fn held_at(p: &[u8], width: u8, i: usize, expected: u64) -> Result<usize, Refusal>
     requires { (16384 ≤ length p.now) × (width ≤ 8) × (8 * i + 8 ≤ 16256) × ((slot_of p.now i).offset + payload_bytes width (slot_of p.now i).len ≤ 16256) }
     ensures { result ≡ held_at width p.now i expected }
@@ -29,6 +30,7 @@ fn held_at(p: &[u8], width: u8, i: usize, expected: u64) -> Result<usize, Refusa
 }
 
 // The slot that holds a key with the expected value, on a page that is fit: 7, 8, 17, 18.
+#[tactic(auto, using(crate::proofs::Replaced::by_search))]
 fn find_held(p: &[u8], width: u8, key: &[u8], expected: u64, new: u64) -> Result<usize, Refusal>
     requires { Tested width p.now (length key.now) }
     ensures { result ≡ held_with width p.now key.now expected new }

@@ -1,11 +1,6 @@
 -- Demand 3 of the calls: a run of calls leaves the page after all records, a batch answers as the fold does, and both are demand 3 then. Assumes nothing.
-use mathlib.Core.Path.{◌≡◌, refl, ◌∙◌}
-use mathlib.Core.Bool.{true, false}
-use mathlib.Core.List.{List, [], ◌∷◌, Permᴰ}
-use Prim.Native.Nat.{ℕ, ◌+◌}
-use native.Mathlib.Omega.{arith}
-use borrow.Author.Tests.{eq-eqb}
-use lib.ListN.{length}
+use Rattle.std.proofs.Common.{◌≡◌, refl, ◌∙◌, true, false, List, [], ◌∷◌, ℕ, ◌+◌, arith, eq-eqb, length, Result, Ok, Err}
+use mathlib.Core.List.{Permᴰ}
 use Rattle.paper.specs.Lists.{all}
 use Rattle.paper.specs.Listing.{Entry}
 use Rattle.paper.specs.Refusals.{judge}
@@ -18,7 +13,6 @@ use Rattle.paper.proofs.Demand.{demand3}
 use Rattle.filing.specs.Batches.{records_of, holds_records, go_on, fold_from, fold_of, batch_of, batch_page}
 use Rattle.filing.specs.Demanded.{Step, AllMade, last_page, entries, DemandCalls, DemandBatch}
 use Rattle.filing.specs.declared.batch.NotFiled.{NotFiled}
-use Rattle.std.specs.Prelude.{Result, Ok, Err, is_ok}
 use Rattle.paper.specs.declared.refusal.Refusal.{Refusal}
 
 -- ---- a run of calls

@@ -1,12 +1,6 @@
 -- The fold over the records of a buffer: a turn, a record refused, the end; and the ways out of the call. Assumes nothing.
-use mathlib.Core.Path.{◌≡◌, refl, sym, ap, ◌∙◌}
-use mathlib.Core.Bool.{Bool, true, false}
-use mathlib.Core.List.{List, [], ◌∷◌, append-nil}
-use Prim.Native.Nat.{ℕ, ◌+◌, ◌-◌, ◌≤◌, ◌<◌}
-use native.Mathlib.Omega.{arith}
-use lib.Seq.{take_all}
-use lib.ListN.{length, take, drop, drop_of_length-le}
-use Rattle.octets.specs.Bytes.{le, part, put}
+use Rattle.std.proofs.Common.{◌≡◌, refl, ap, ◌∙◌, Bool, true, false, List, [], ◌∷◌, append-nil, ℕ, ◌+◌, ◌≤◌, arith, take_all, length, take, drop_of_length-le, Result, Ok, Err, is_ok, not}
+use Rattle.octets.specs.Bytes.{put}
 use Rattle.octets.proofs.Put.{put_eq}
 use Rattle.keys.specs.Choice.{pick}
 use Rattle.paper.specs.Listing.{Entry}
@@ -18,58 +12,36 @@ use Rattle.paper.specs.declared.refusal.Refusal.{Refusal}
 use Rattle.verdict.specs.Fits.{fit_admit_of}
 use Rattle.verdict.proofs.Fitness.{fitted, fitted-judge, unfit-judge}
 use Rattle.edit.proofs.Inserted.{insert-refused}
-use Rattle.filing.specs.Batches.{record_at, records_from, records_of, holds_records, go_on, fold_from, fold_of, batch_of, batch_page, first_length}
+use Rattle.filing.specs.Batches.{records_of, holds_records, go_on, fold_from, fold_of, batch_of, batch_page, first_length}
 use Rattle.filing.specs.Standing.{Standing}
 use Rattle.filing.specs.declared.batch.NotFiled.{NotFiled}
 use Rattle.filing.specs.declared.batch.NotFiled.TheVariants.{Refused, Cut}
-use Rattle.filing.proofs.Placed.{records-none, records-turn}
-use Rattle.std.specs.Prelude.{Result, Ok, Err, is_ok, not}
 
--- ---- the record at place o, as it was read: n its key's length, x the key and v the value
-module _ (w : ℕ) (p b : List ℕ) (o n v : ℕ) (d : n ≡ le 4 b o) (e : v ≡ le 8 b (o + 4 + n)) where
-  key-read : take (o + 4 + n - (o + 4)) (drop (o + 4) b) ≡ (record_at b o).key
-  unfolding part
-  key-read = let m : o + 4 + n - (o + 4) ≡ n = omega arith in rw (m, d)
-
-  value_read : v ≡ (record_at b o).value
-  value_read = e ∙ rw d
-
-  pub filed-read : (x : List ℕ) → x ≡ take (o + 4 + n - (o + 4)) (drop (o + 4) b) → (r : Result ℕ Refusal) (q : List ℕ) → (r ≡ insert_of w p x v) × ((q ≡ insert_page w p x v) × Standing w q)
-      → (r ≡ insert_of w p (record_at b o).key (record_at b o).value) × ((q ≡ insert_page w p (record_at b o).key (record_at b o).value) × Standing w q)
-  filed-read x k r q f = rw (← key-read, ← value_read, ← k) f
-
--- ---- a turn: the record at place o of the buffer b
-module _ (w : ℕ) (p b : List ℕ) (o : ℕ) where
-  abbrev left : List Entry
-  left = records_from (length b - o) b o
-
-  pub fold_done : (i : ℕ) → length b ≤ o → fold_from i w p left ≡ Ok i
+-- ---- a turn: the records that are left
+module _ (w : ℕ) (p : List ℕ) (left : List Entry) where
+  pub fold_done : left ≡ [] → (i : ℕ) → fold_from i w p left ≡ Ok i
   unfolding fold_from
-  fold_done i h = rw (records-none b (length b - o) o h)
+  fold_done e i = rw e
 
-  pub page-done : length b ≤ o → page_after w p left ≡ p
+  pub page-done : left ≡ [] → page_after w p left ≡ p
   unfolding page_after
-  page-done h = rw (records-none b (length b - o) o h)
+  page-done e = rw e
 
-  -- it is the i-th of all, and f is what its insert answered
-  pub fold-refused : o < length b → (i : ℕ) (f : Result ℕ Refusal) → f ≡ insert_of w p (record_at b o).key (record_at b o).value → (q : Refusal) → f ≡ Err q
-      → fold_from i w p left ≡ Err (Refused i q)
-  unfolding fold_from go_on
-  fold-refused h i f a q e = rw (records-turn b o h (le 4 b o) refl, ← a, e)
-
-  -- n is the length that was read, q the page that the insert left
-  module _ (h : o < length b) (n : ℕ) (e : n ≡ le 4 b o) (q : List ℕ) (d : q ≡ insert_page w p (record_at b o).key (record_at b o).value) where
-    abbrev next : List Entry
-    next = records_from (length b - (o + 12 + n)) b (o + 12 + n)
-
-    pub page-on : page_after w p left ≡ page_after w q next
-    unfolding page_after
-    page-on = rw (records-turn b o h n e, d)
-
-    pub fold_on : (i : ℕ) (f : Result ℕ Refusal) → f ≡ insert_of w p (record_at b o).key (record_at b o).value → (s : ℕ) → f ≡ Ok s
-        → fold_from i w p left ≡ fold_from (i + 1) w q next
+  -- x is the first of them, the i-th of all, and f is what its insert answered
+  module _ (x : Entry) (next : List Entry) (h : left ≡ x ∷ next) where
+    pub fold-refused : (i : ℕ) (f : Result ℕ Refusal) → f ≡ insert_of w p x.key x.value → (r : Refusal) → f ≡ Err r → fold_from i w p left ≡ Err (Refused i r)
     unfolding fold_from go_on
-    fold_on i f a s m = rw (records-turn b o h n e, ← a, m, ← d)
+    fold-refused i f a r e = rw (h, ← a, e)
+
+    -- q is the page that the insert left
+    module _ (q : List ℕ) (d : q ≡ insert_page w p x.key x.value) where
+      pub page-on : page_after w p left ≡ page_after w q next
+      unfolding page_after
+      page-on = rw (h, d)
+
+      pub fold_on : (i : ℕ) (f : Result ℕ Refusal) → f ≡ insert_of w p x.key x.value → (s : ℕ) → f ≡ Ok s → fold_from i w p left ≡ fold_from (i + 1) w q next
+      unfolding fold_from go_on
+      fold_on i f a s m = rw (h, ← a, m, ← d)
 
 -- a refusal is not filed
 pub not_filed : (f : NotFiled) {A : Type 0} → is_ok {T = ℕ} (Err f) ≡ true → A
@@ -115,14 +87,17 @@ module _ (w : ℕ) (p : List ℕ) where
     unfolding batch_of batch_page
     batch-cut e = (rw (← c, e), rw (← c, e))
 
-    module _ (whole : t ≡ true) (n : ℕ) (l : n ≡ first_length (records_of b)) where
+    -- m is the buffer as its records are taken from it
+    module _ (whole : t ≡ true) (m : List ℕ) (M : m ≡ b) (n : ℕ) (l : n ≡ first_length (records_of m)) where
       pub batch-refused : (q : Refusal) → fit_admit_of w p n ≡ Err q → (Err (Refused 0 q) ≡ batch_of w p b) × (p ≡ batch_page w p b)
       unfolding batch_of batch_page
-      batch-refused q e = let f = refused-first (records_of b) q (rw l at e) in (rw (← c, whole, f), rw (← c, whole, f))
+      batch-refused q e = let f = refused-first (records_of b) q (rw (l, M) at e) in (rw (← c, whole, f), rw (← c, whole, f))
 
-      pub batch-fitted : (h : Header) → fit_admit_of w p n ≡ Ok h → (r : Result ℕ NotFiled) → r ≡ fold_from 0 w p (records_of b)
-          → (q : List ℕ) → q ≡ pick (is_ok r) (page_after w p (records_of b)) p → (r ≡ batch_of w p b) × (q ≡ batch_page w p b)
+      pub batch-fitted : (h : Header) → fit_admit_of w p n ≡ Ok h → (r : Result ℕ NotFiled) → r ≡ fold_from 0 w p (records_of m)
+          → (q : List ℕ) → q ≡ pick (is_ok r) (page_after w p (records_of m)) p → (r ≡ batch_of w p b) × (q ≡ batch_page w p b)
       unfolding batch_of batch_page
-      batch-fitted h e r d q m =
-          let f = fitted-first (records_of b) h (rw l at e) in
-          (d ∙ rw (← c, whole, f), m ∙ rw (d, ← c, whole, f))
+      batch-fitted h e r d q k =
+          let f = fitted-first (records_of b) h (rw (l, M) at e) in
+          (d ∙ rw (M, ← c, whole, f), k ∙ rw (d, M, ← c, whole, f))
+
+pub ruleset by_turn = (fold_done, page-done, fold-refused, fold_on, page-on)

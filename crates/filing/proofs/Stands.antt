@@ -1,12 +1,7 @@
 -- An insert on a page that stands as tested is the call, and leaves a page that stands so: on an accepted record by the paper's laws of filing, on a
 -- refused one since the page stays. Assumes nothing.
-use mathlib.Core.Path.{◌≡◌, refl, ◌∙◌}
-use mathlib.Core.Bool.{Bool, true, false}
-use mathlib.Core.List.{List, [], ◌∷◌}
-use Prim.Native.Nat.{ℕ, ◌≤◌, ◌<◌}
-use borrow.Author.Tests.{eq-eqb, le-leb, lt-leb, leb-true}
-use lib.Dec.{leb, eqb}
-use lib.ListN.{length}
+use Rattle.std.proofs.Common.{◌≡◌, refl, ◌∙◌, Bool, true, false, List, [], ◌∷◌, ℕ, ◌≤◌, ◌<◌, eq-eqb, le-leb, leb-true, leb, eqb, length, Result, Ok, Err}
+use borrow.Author.Tests.{lt-leb}
 use Rattle.octets.specs.Bytes.{IsBytes}
 use Rattle.keys.specs.Choice.{pick, both}
 use Rattle.paper.specs.Lists.{all, differ}
@@ -26,7 +21,6 @@ use Rattle.verdict.specs.Fits.{fit_admit_of}
 use Rattle.edit.specs.Inserts.{insert_with, inserted_with}
 use Rattle.edit.proofs.Inserted.{insert-fitted}
 use Rattle.filing.specs.Standing.{Standing}
-use Rattle.std.specs.Prelude.{Result, Ok, Err}
 use Rattle.paper.specs.declared.refusal.Refusal.{Refusal}
 
 -- all tests hold and a is given, or b whatever the refusal

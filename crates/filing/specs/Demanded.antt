@@ -1,6 +1,6 @@
 -- Demand 3 of the calls themselves: what a caller gets who files records one by one, or as a batch.
-use Rattle.std.specs.Prelude.{Ok, ◌≡◌, ℕ, true, length, Result}
-use mathlib.Core.List.{List, [], ◌∷◌, map, Permᴰ}
+use Rattle.std.specs.Prelude.{Ok, ◌≡◌, ℕ, true, length, Result, List, [], ◌∷◌, map}
+use mathlib.Core.List.{Permᴰ}
 use Rattle.paper.specs.Lists.{all}
 use Rattle.paper.specs.Listing.{Entry, listing, file_all}
 use Rattle.paper.specs.Calls.{insert_of, insert_page}

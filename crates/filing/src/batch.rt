@@ -1,15 +1,16 @@
 // A batch: the records of a lent buffer filed on a page, all of them or none. The page is tested once.
-ghost use Rattle.std.specs.Prelude.{◌≡◌, true, is_ok, ◌+◌, ◌≤◌, length};
+// Page and width stay parameters with `Standing`: a struct that lends the page to a write would owe its fit again before the write ends.
+ghost use Rattle.std.specs.Prelude.{◌≡◌, true, is_ok};
 ghost use Rattle.keys.specs.Choice.{pick};
-ghost use Rattle.octets.specs.Bytes.{le};
 ghost use Rattle.paper.specs.Calls.{insert_of, insert_page};
 ghost use Rattle.paper.specs.Demand.{page_after};
-ghost use Rattle.filing.specs.Batches.{record_at, records_of, holds_records, fold_from, batch_of, batch_page};
+ghost use Rattle.filing.specs.Batches.{records_of, fold_from, batch_of, batch_page};
 ghost use Rattle.filing.specs.Standing.{Standing};
 
 use crate::records;
+use crate::records::Records;
 use edit::insert;
-use octets::{number, runs};
+use octets::runs;
 use paper::refusal::Refusal;
 use verdict::fit;
 
@@ -33,45 +34,31 @@ fn file_one(p: &mut [u8], width: u8, key: &[u8], value: u64) -> Result<usize, Re
     insert::insert_fit(p, width, key, value)
 }
 
-// The same with the record at a place of the buffer.
-fn file_at(p: &mut [u8], width: u8, b: &[u8], at: usize) -> Result<usize, Refusal>
-    requires { Standing width p.old × (at + 12 + le 4 b.now at ≤ length b.now) }
-    ensures value { result ≡ insert_of width p.old (record_at b.now at).key (record_at b.now at).value }
-    ensures p_after { p.new ≡ insert_page width p.old (record_at b.now at).key (record_at b.now at).value }
-    ensures standing { Standing width p.new }
-{
-    let end = at + 4 + (number::read_u32(b, at) as usize);
-    let value = number::read_u64(b, end);
-    file_one(p, width, &b[at + 4..end], value)
-}
-
 // The records one after the other, up to the first one refused; the page is left as the inserts before that leave it.
-fn file_all(p: &mut [u8], width: u8, b: &[u8]) -> Result<usize, NotFiled>
-    requires { Standing width p.old × (holds_records b.now ≡ true) }
-    ensures value { result ≡ fold_from 0 width p.old (records_of b.now) }
-    ensures p_after { is_ok result ≡ true → p.new ≡ page_after width p.old (records_of b.now) }
+fn file_all(p: &mut [u8], width: u8, records: Records<'_>) -> Result<usize, NotFiled>
+    requires { Standing width p.old }
+    ensures value { result ≡ fold_from 0 width p.old (records_of records.entry.left.now) }
+    ensures p_after { is_ok result ≡ true → p.new ≡ page_after width p.old (records_of records.entry.left.now) }
 {
-    let mut at = 0;
-    let mut i = 0;
-    while at < b.len() {
-        if let Err(r) = file_at(p, width, b, at) {
-            return Err(NotFiled::Refused(i, r));
+    let mut filed = 0;
+    for record in records {
+        if let Err(r) = file_one(p, width, record.key, record.value) {
+            return Err(NotFiled::Refused(filed, r));
         }
-        at = at + 12 + (number::read_u32(b, at) as usize);
-        i += 1;
+        filed += 1;
     }
-    Ok(i)
+    Ok(filed)
 }
 
 // All records or none: where one is refused, the page is put back. The copy's length is a literal, so that no zeros are written first.
-fn file_or_restore(p: &mut [u8], width: u8, b: &[u8]) -> Result<usize, NotFiled>
-    requires { Standing width p.old × (holds_records b.now ≡ true) }
-    ensures value { result ≡ fold_from 0 width p.old (records_of b.now) }
-    ensures p_after { p.new ≡ pick (is_ok result) (page_after width p.old (records_of b.now)) p.old }
+fn file_or_restore(p: &mut [u8], width: u8, records: Records<'_>) -> Result<usize, NotFiled>
+    requires { Standing width p.old }
+    ensures value { result ≡ fold_from 0 width p.old (records_of records.entry.left.now) }
+    ensures p_after { p.new ≡ pick (is_ok result) (page_after width p.old (records_of records.entry.left.now)) p.old }
 {
     let mut saved = [0u8; 16384];
     runs::copy_in(&mut saved, 0, &p[..16384]);
-    let filed = file_all(p, width, b);
+    let filed = file_all(p, width, records);
     if filed.is_err() {
         runs::copy_in(p, 0, &saved);
     }
@@ -88,8 +75,9 @@ pub fn file_batch(p: &mut [u8], width: u8, b: &[u8]) -> Result<usize, NotFiled>
     if !records::holds_records(b) {
         return Err(NotFiled::Cut);
     }
-    if let Err(r) = fit::admit_fit(p, width, records::first_length(b)) {
+    let records = Records::of(b);
+    if let Err(r) = fit::admit_fit(p, width, records.first_length()) {
         return Err(NotFiled::Refused(0, r));
     }
-    file_or_restore(p, width, b)
+    file_or_restore(p, width, records)
 }

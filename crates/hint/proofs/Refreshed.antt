@@ -1,11 +1,6 @@
 -- The refresh by a flag and a count that are known: it is document 01's refresh of a page that says them, and either side of its test as
 -- code takes it. Assumes nothing.
-use mathlib.Core.Path.{◌≡◌}
-use mathlib.Core.Bool.{true, false}
-use mathlib.Core.List.{List}
-use Prim.Native.Nat.{ℕ, ◌≤◌}
-use borrow.Author.Tests.{leb-true}
-use lib.Dec.{leb, eqb}
+use Rattle.std.proofs.Common.{◌≡◌, true, false, List, ℕ, ◌≤◌, leb-true, leb, eqb}
 use Rattle.octets.specs.Bytes.{put}
 use Rattle.paper.specs.Page.{slot_of, frame_of, numbers_of}
 use Rattle.paper.specs.Hints.{in_use, fresh, flat, refresh}

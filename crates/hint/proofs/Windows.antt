@@ -1,16 +1,7 @@
 -- The first hint that passes, as a loop that goes down from the last hint finds it; and the window that two such hints bound, which lies
 -- within the slots. Assumes nothing.
-use mathlib.Core.Path.{◌≡◌, refl, ap, ◌∙◌}
-use mathlib.Core.Bool.{Bool, true, false}
-use mathlib.Core.List.{List, [], ◌∷◌}
-use Prim.Native.Nat.{ℕ, suc, ◌+◌, ◌*◌, ◌-◌, ◌/◌, ◌≤◌, ◌<◌}
-use native.Mathlib.Nat.{mul-le-mul_right}
+use Rattle.std.proofs.Common.{◌≡◌, refl, ap, ◌∙◌, Bool, true, false, List, [], ◌∷◌, ℕ, suc, ◌+◌, ◌*◌, ◌-◌, ◌/◌, ◌≤◌, ◌<◌, mul-le-mul_right, arith, le-leb, ltb-true, eq-eqb, ne_eqb, leb, ltb, length, get_or, drop, drop_of_length-le, drop-cons}
 use native.Mathlib.Decide.{dec_lt}
-use native.Mathlib.Omega.{arith}
-use borrow.Author.Tests.{le-leb, ltb-true, eq-eqb, ne_eqb}
-use lib.Dec.{leb, ltb}
-use lib.ListN.{length, get_or, drop, drop_of_length-le}
-use lib.Seq.{drop-cons}
 use Rattle.keys.specs.Choice.{pick}
 use Rattle.paper.specs.Hints.{first_hint, window_low, window_high}
 use Rattle.paper.proofs.Halving.{first_hint-le}

@@ -1,11 +1,6 @@
 -- Shared length and order together. Of three keys in order the outer two share what both neighbours share, so the nearest keys share
 -- the most, and a key between two fences has the prefix that the fences share. Assumes nothing.
-use mathlib.Core.Path.{◌≡◌, refl, sym}
-use mathlib.Core.Logic.{◌⊎◌, inl, inr, ⊎_elim}
-use mathlib.Core.List.{List, [], ◌∷◌}
-use Prim.Native.Nat.{ℕ, ◌≤◌, ◌<◌, min}
-use native.Mathlib.Omega.{arith}
-use lib.ListN.{take}
+use Rattle.std.proofs.Common.{◌≡◌, refl, sym, ◌⊎◌, inl, inr, ⊎_elim, List, [], ◌∷◌, ℕ, ◌≤◌, ◌<◌, min, arith, take}
 use Rattle.keys.specs.Keys.{order, common}
 use Rattle.keys.proofs.Numbers.{below_above, by_number_below}
 use Rattle.keys.proofs.Orders.{order_same}

@@ -1,15 +1,8 @@
 -- Laws of heads: heads that differ decide the order; where they are equal and a suffix is within four bytes the lengths decide, and else
 -- the bytes do. Assumes nothing.
-use mathlib.Core.Path.{◌≡◌, refl, sym, ◌∙◌}
-use mathlib.Core.Bool.{Bool, true, false}
-use mathlib.Core.Logic.{◌⊎◌, inl, inr, ⊎_elim, ⊎_map}
-use mathlib.Core.List.{List, [], ◌∷◌}
-use Prim.Native.Nat.{ℕ, zero, suc, ◌^◌, ◌≤◌, min}
+use Rattle.std.proofs.Common.{◌≡◌, refl, sym, ◌∙◌, Bool, true, false, ◌⊎◌, inl, inr, ⊎_elim, List, [], ◌∷◌, ℕ, zero, suc, ◌^◌, ◌≤◌, min, arith, leb-true, leb, length}
+use mathlib.Core.Logic.{⊎_map}
 use native.Mathlib.Decide.{dec_le}
-use native.Mathlib.Omega.{arith}
-use borrow.Author.Tests.{leb-true}
-use lib.Dec.{leb}
-use lib.ListN.{length}
 use Rattle.octets.specs.Bytes.{IsBytes, be}
 use Rattle.octets.proofs.Big.{be-cons, be-lt, digits_eq}
 use Rattle.keys.specs.Choice.{pick}

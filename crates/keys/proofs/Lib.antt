@@ -5,3 +5,4 @@ pub mod Heads
 pub mod Words
 pub mod Between
 pub mod Sharing
+pub mod Methods

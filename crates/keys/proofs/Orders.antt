@@ -1,15 +1,6 @@
 -- Laws of the order of keys: it is reflexive, antisymmetric, transitive and total, two keys are at the same place exactly when their
 -- bytes are equal, and a common front changes nothing. Assumes nothing.
-use mathlib.Core.Path.{◌≡◌, refl, sym, ap, ◌∙◌}
-use mathlib.Core.Bool.{Bool, true, false}
-use mathlib.Core.Logic.{◌⊎◌, inl, inr, ⊎_elim}
-use mathlib.Core.List.{List, [], ◌∷◌, ◌++◌}
-use Prim.Native.Nat.{ℕ, suc, ◌+◌, ◌<◌}
-use native.Mathlib.Omega.{arith}
-use borrow.Author.Tests.{eq-eqb, eqb-true}
-use lib.Dec.{eqb}
-use lib.ListN.{length, get_or, drop}
-use lib.Seq.{drop-cons}
+use Rattle.std.proofs.Common.{◌≡◌, refl, sym, ap, ◌∙◌, Bool, true, false, ◌⊎◌, inl, inr, ⊎_elim, List, [], ◌∷◌, ◌++◌, ℕ, suc, ◌<◌, arith, eq-eqb, eqb-true, eqb, length, get_or, drop, drop-cons}
 use Rattle.keys.specs.Choice.{both}
 use Rattle.keys.specs.Keys.{by_number, order, same_list}
 use Rattle.keys.proofs.Numbers.{below_same, below_above, same_above, by_number-lt, by_number_eq, by_number-flip, by_number_below, by_number_same}

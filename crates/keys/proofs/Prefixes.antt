@@ -1,17 +1,8 @@
 -- Laws of the length of the common prefix: what lies within it, that it is the longest, and that it decides where the order of two
 -- keys is found. Assumes nothing.
-use mathlib.Core.Path.{◌≡◌, refl, sym, ap, ◌∙◌}
-use mathlib.Core.Bool.{false}
-use mathlib.Core.Logic.{◌⊎◌, inl, inr, ⊎_elim}
-use mathlib.Core.List.{List, [], ◌∷◌, ◌++◌}
-use Prim.Native.Nat.{ℕ, zero, suc, ◌+◌, ◌-◌, ◌≤◌, ◌<◌, min}
-use native.Mathlib.Nat.{suc-add, zero-add}
+use Rattle.std.proofs.Common.{◌≡◌, refl, sym, ap, ◌∙◌, false, ◌⊎◌, inl, inr, ⊎_elim, List, [], ◌∷◌, ◌++◌, ℕ, zero, suc, ◌+◌, ◌-◌, ◌≤◌, ◌<◌, min, suc-add, zero-add, arith, eq-eqb, ne_eqb, le-leb, leb, eqb, length, get_or, take, drop, length-take, ext_get_or, get_or-take, length-take-le, take_all}
 use native.Mathlib.Decide.{dec_le, dec_lt}
-use native.Mathlib.Omega.{arith}
-use borrow.Author.Tests.{eq-eqb, ne_eqb, le-leb, lt-leb}
-use lib.Dec.{leb, eqb}
-use lib.ListN.{length, get_or, take, drop, length-take}
-use lib.Seq.{ext_get_or, get_or-take, length-take-le, take_all}
+use borrow.Author.Tests.{lt-leb}
 use Rattle.octets.proofs.Alike.{Alike}
 use Rattle.keys.specs.Keys.{begins, by_number, order, common, same_list}
 use Rattle.keys.proofs.Numbers.{alike?, by_number-lt, by_number_eq, by_number_gt, by_number_ne, by_number-suc}

@@ -1,10 +1,5 @@
 -- The order of two keys by what they share, as code finds it. Assumes nothing.
-use mathlib.Core.Path.{◌≡◌, sym, ap, ◌∙◌}
-use mathlib.Core.Logic.{inl, inr}
-use mathlib.Core.List.{List}
-use Prim.Native.Nat.{ℕ, ◌≤◌, ◌<◌}
-use native.Mathlib.Omega.{arith}
-use lib.ListN.{length, get_or}
+use Rattle.std.proofs.Common.{◌≡◌, sym, ap, ◌∙◌, inl, inr, List, ℕ, ◌≤◌, ◌<◌, arith, length, get_or}
 use Rattle.keys.specs.Keys.{by_number, order, common}
 use Rattle.keys.proofs.Numbers.{by_number-lt, by_number_eq, by_number_gt}
 use Rattle.keys.proofs.Orders.{order_same}

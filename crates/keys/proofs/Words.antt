@@ -1,16 +1,8 @@
 -- Words of bytes against the order of keys and their common prefix: what a loop over words knows at each way out, whatever its step and
 -- its byte order. The invariant of all of them is a number, `i ≤ common a b`. Assumes nothing.
-use mathlib.Core.Path.{◌≡◌, refl, sym, ◌∙◌}
-use mathlib.Core.Bool.{Bool, true, false, ◌&&◌}
-use mathlib.Core.Logic.{◌⊎◌, inl, inr, ⊎_elim}
-use mathlib.Core.List.{List}
-use Prim.Native.Nat.{ℕ, zero, suc, ◌+◌, ◌^◌, ◌≤◌, ◌<◌}
-use native.Mathlib.Nat.{add-zero}
+use Rattle.std.proofs.Common.{◌≡◌, refl, sym, ◌∙◌, Bool, true, false, ◌&&◌, ◌⊎◌, inl, inr, ⊎_elim, List, ℕ, zero, suc, ◌+◌, ◌^◌, ◌≤◌, ◌<◌, add-zero, arith, eq-eqb, ne_eqb, le-leb, leb-true, leb-false, leb, eqb, length, get_or, drop}
 use native.Mathlib.Decide.{dec_lt}
-use native.Mathlib.Omega.{arith}
-use borrow.Author.Tests.{eq-eqb, ne_eqb, le-leb, lt-leb, leb-true, leb-false}
-use lib.Dec.{leb, eqb}
-use lib.ListN.{length, get_or, drop}
+use borrow.Author.Tests.{lt-leb}
 use Rattle.octets.specs.Bytes.{IsBytes, le, be}
 use Rattle.octets.proofs.Alike.{le-alike}
 use Rattle.octets.proofs.Little.{le_same}

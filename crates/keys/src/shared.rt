@@ -1,44 +1,33 @@
 // What two keys share: the length of their longest common prefix, whether they are equal, whether one begins with the
-// other, and their order by it.
-ghost use Rattle.std.specs.Prelude.{◌≡◌, ◌≤◌, leb, length};
+// other, and their order.
+#![tactic(auto, using(crate::proofs::Methods::comparing))]
+
+ghost use Rattle.std.specs.Prelude.{◌≡◌, ◌+◌, ◌≤◌, leb, length};
 ghost use Rattle.keys.specs.Keys.{begins, common, order, same_list};
 ghost use Rattle.keys.specs.Walk.{Near, Reach};
 
-use crate::walk;
+use crate::order;
 use octets::number;
 use std::cmp::Ordering;
 
-// The half that has the first difference: four bytes of eight.
-fn half_4(a: &[u8], b: &[u8], i: usize) -> usize
-    requires { Near a.now b.now i 8 }
-    ensures { Near a.now b.now result 4 }
+// Whether the `N` bytes from `i` on agree, where those before them do.
+#[tactic(auto, using(crate::proofs::Methods::agreeing))]
+fn agree<const N: usize>(a: &[u8], b: &[u8], i: usize) -> bool
+    requires { (i + N ≤ length a.now) × (i + N ≤ length b.now) × (i ≤ common a.now b.now) }
+    ensures { result ≡ leb (i + N) (common a.now b.now) }
 {
-    if number::read_u32(a, i) != number::read_u32(b, i) {
-        return i;
-    }
-    i + 4
+    number::array::<N>(a, i) == number::array::<N>(b, i)
 }
 
-// Two bytes of four.
-fn half_2(a: &[u8], b: &[u8], i: usize) -> usize
-    requires { Near a.now b.now i 4 }
-    ensures { Near a.now b.now result 2 }
+// The half with the first difference: `N` bytes of twice as many.
+fn half<const N: usize>(a: &[u8], b: &[u8], i: usize) -> usize
+    requires { Near a.now b.now i (N + N) }
+    ensures { Near a.now b.now result N }
 {
-    if number::read_u16(a, i) != number::read_u16(b, i) {
-        return i;
+    if agree::<N>(a, b, i) {
+        return i + N;
     }
-    i + 2
-}
-
-// One byte of two.
-fn half_1(a: &[u8], b: &[u8], i: usize) -> usize
-    requires { Near a.now b.now i 2 }
-    ensures { Near a.now b.now result 1 }
-{
-    if number::read_u8(a, i) != number::read_u8(b, i) {
-        return i;
-    }
-    i + 1
+    i
 }
 
 // The first difference among eight bytes, by halves.
@@ -46,9 +35,22 @@ fn halves(a: &[u8], b: &[u8], i: usize) -> usize
     requires { Near a.now b.now i 8 }
     ensures { result ≡ common a.now b.now }
 {
-    let j = half_4(a, b, i);
-    let k = half_2(a, b, j);
-    half_1(a, b, k)
+    let j = half::<4>(a, b, i);
+    let k = half::<2>(a, b, j);
+    half::<1>(a, b, k)
+}
+
+// A number of bytes that agree, in steps of 32.
+fn blocks(a: &[u8], b: &[u8], n: usize) -> usize
+    requires { (n ≤ length a.now) × (n ≤ length b.now) }
+    ensures { (result ≤ n) × (result ≤ common a.now b.now) }
+{
+    for k in 0..n / 32 {
+        if !agree::<32>(a, b, 32 * k) {
+            return 32 * k;
+        }
+    }
+    n / 32 * 32
 }
 
 // Words of eight bytes, the last one up to the end.
@@ -56,15 +58,14 @@ fn words(a: &[u8], b: &[u8], from: usize, n: usize) -> usize
     requires { (8 ≤ n) × Reach a.now b.now from n }
     ensures { result ≡ common a.now b.now }
 {
-    let mut i = from;
-    while n - i >= 8 {
-        if number::read_u64(a, i) != number::read_u64(b, i) {
+    for k in 0..(n - from) / 8 {
+        let i = from + 8 * k;
+        if !agree::<8>(a, b, i) {
             return halves(a, b, i);
         }
-        i += 8;
     }
     let last = n - 8;
-    if number::read_u64(a, last) != number::read_u64(b, last) {
+    if !agree::<8>(a, b, last) {
         return halves(a, b, last);
     }
     n
@@ -75,25 +76,24 @@ fn singles(a: &[u8], b: &[u8], n: usize) -> usize
     requires { Reach a.now b.now 0 n }
     ensures { result ≡ common a.now b.now }
 {
-    let mut i = 0;
-    while i < n {
-        if number::read_u8(a, i) != number::read_u8(b, i) {
+    for i in 0..n {
+        if !agree::<1>(a, b, i) {
             return i;
         }
-        i += 1;
     }
     n
 }
 
 // How many leading bytes two keys share.
+// By blocks and words: std's `zip` and `position` take eight instructions a byte, the words seven for eight bytes.
 pub fn common_prefix_len(a: &[u8], b: &[u8]) -> usize
     ensures { result ≡ common a.now b.now }
 {
-    let n = walk::lesser(a.len(), b.len());
+    let n = a.len().min(b.len());
     if n < 8 {
         return singles(a, b, n);
     }
-    let from = walk::first(a, b, n);
+    let from = if n < 64 { 0 } else { blocks(a, b, n) };
     words(a, b, from, n)
 }
 
@@ -101,58 +101,19 @@ pub fn common_prefix_len(a: &[u8], b: &[u8]) -> usize
 pub fn equal(a: &[u8], b: &[u8]) -> bool
     ensures { result ≡ same_list a.now b.now }
 {
-    if a.len() != b.len() {
-        return false;
-    }
-    common_prefix_len(a, b) == a.len()
-}
-
-// Whether the first `n` bytes agree: blocks of 32, the last one up to the end.
-fn blocks_agree(a: &[u8], b: &[u8], n: usize) -> bool
-    requires { (32 ≤ n) × (n ≤ length a.now) × (n ≤ length b.now) }
-    ensures { result ≡ leb n (common a.now b.now) }
-{
-    let mut i = 0;
-    while n - i >= 32 {
-        if !walk::same_32(a, b, i) {
-            return false;
-        }
-        i += 32;
-    }
-    walk::same_32(a, b, n - 32)
+    a == b
 }
 
 // Whether `a` begins with `b`.
 pub fn begins_with(a: &[u8], b: &[u8]) -> bool
     ensures { result ≡ begins a.now b.now }
 {
-    let n = b.len();
-    if a.len() < n {
-        return false;
-    }
-    if n < 32 {
-        return common_prefix_len(a, b) == n;
-    }
-    blocks_agree(a, b, n)
+    a.starts_with(b)
 }
 
-// How `a` stands to `b`, by what they share. Where speed matters less than the one call of `order::compare`, which then melts
-// into the hot search.
+// How `a` stands to `b`: behind what they share the next bytes decide, and a key that has none is below.
 pub fn order_by_shared(a: &[u8], b: &[u8]) -> Ordering
     ensures { result ≡ order a.now b.now }
 {
-    let n = common_prefix_len(a, b);
-    if n == a.len() {
-        if n == b.len() {
-            return Ordering::Equal;
-        }
-        return Ordering::Less;
-    }
-    if n == b.len() {
-        return Ordering::Greater;
-    }
-    if a[n] < b[n] {
-        return Ordering::Less;
-    }
-    Ordering::Greater
+    order::compare(a, b)
 }

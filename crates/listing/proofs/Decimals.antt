@@ -1,16 +1,8 @@
 -- Decimal digits one at a time, from the last; hex digits a byte at a time, from the first. Assumes nothing.
-use mathlib.Core.Path.{◌≡◌, refl, sym, ◌∙◌}
-use mathlib.Core.List.{List, [], ◌∷◌, ◌++◌}
-use Prim.Native.Nat.{ℕ, zero, suc, ◌+◌, ◌/◌, ◌%◌, ◌^◌, ◌≤◌, ◌<◌}
-use native.Mathlib.Nat.{pow-suc}
-use native.Mathlib.Numerals.{add-one}
+use Rattle.std.proofs.Common.{◌≡◌, refl, sym, ap, ◌∙◌, List, [], ◌∷◌, ◌++◌, append_assoc, ℕ, zero, suc, ◌+◌, ◌*◌, ◌/◌, ◌%◌, ◌^◌, ◌≤◌, ◌<◌, pow-suc, add-one, arith, lt-ltb, le-ltb, length, get_or, set, take, drop, length-append, length-set, drop_of_length-le, drop-cons, take_all, take-suc, take-suc-set}
 use native.Mathlib.Decide.{dec_lt}
-use native.Mathlib.Omega.{arith}
-use borrow.Author.Tests.{lt-ltb, le-ltb}
-use lib.ListN.{length, get_or, drop, length-append, drop_of_length-le}
-use lib.Seq.{drop-cons}
 use Rattle.listing.specs.Line.{Line, Adds}
-use Rattle.listing.proofs.Writing.{adds-then}
+use Rattle.listing.proofs.Writing.{adds-then, hex-append, length-hex, key-none, left-all, left-done}
 use Rattle.paper.specs.Printed.{decimal_in, decimal, number_words, hex_digit, hex_bytes}
 
 -- ---- decimal
@@ -68,18 +60,22 @@ digits-short a b n h f =
 pub digits-turn : (a b d : Line) (n : ℕ) → 10 ≤ n → n < 18446744073709551616 → Adds a (decimal (n / 10)) b → Adds b ((48 + n % 10) ∷ []) d → Adds a (decimal n) d
 digits-turn a b d n h l f g = rw (decimal-turn n h l) (adds-then a b d (decimal (n / 10)) ((48 + n % 10) ∷ []) f g)
 
--- ---- what is left to put of a list l, from place j on
+-- ---- hex: a byte more
+module _ (o l : List ℕ) (i : ℕ) (n : length o ≡ 2 * length l) (f : take (2 * i) o ≡ hex_bytes (take i l)) where
+  pub hex-turn : (x y : ℕ) → i < length l → x ≡ hex_digit (get_or l i 0 / 16) → y ≡ hex_digit (get_or l i 0 % 16) → take (2 * (i + 1)) (set (set o (2 * i) x) (2 * i + 1) y) ≡ hex_bytes (take (i + 1) l)
+  unfolding hex_bytes
+  hex-turn x y h e g =
+      let a : 2 * (i + 1) ≡ suc (2 * i + 1) = omega arith in
+      let b : 2 * i + 1 ≡ suc (2 * i) = omega arith in
+      let m = length-set o (2 * i) x in
+      rw (a, take-suc-set (set o (2 * i) x) (2 * i + 1) y (omega (arith, m)), b, take-suc-set o (2 * i) x (omega arith), f, add-one i, take-suc l i 0 h, hex-append (take i l) (get_or l i 0 ∷ []), ← e, ← g)
+      (append_assoc (hex_bytes (take i l)) (x ∷ []) (y ∷ []))
+
+  pub hex-done : length l ≤ i → o ≡ hex_bytes l
+  hex-done h = sym (take_all (2 * i) o (omega arith)) ∙ f ∙ ap hex_bytes (take_all i l h)
+
+-- ---- numbers that are left to put, a blank before each
 module _ (l : List ℕ) (j : ℕ) where
-  -- a byte in hex
-  pub hex-turn : (x y : ℕ) → j < length l → x ≡ hex_digit (get_or l j 0 / 16) → y ≡ hex_digit (get_or l j 0 % 16) → hex_bytes (drop j l) ≡ (x ∷ []) ++ (y ∷ []) ++ hex_bytes (drop (j + 1) l)
-  unfolding hex_bytes
-  hex-turn x y h e f = rw (e, f, add-one j, drop-cons l j 0 h)
-
-  pub hex-done : length l ≤ j → hex_bytes (drop j l) ≡ []
-  unfolding hex_bytes
-  hex-done h = rw (drop_of_length-le l h)
-
-  -- a number, with a blank before it
   pub words-turn : j < length l → number_words (drop j l) ≡ (32 ∷ []) ++ decimal (get_or l j 0) ++ number_words (drop (j + 1) l)
   unfolding number_words
   words-turn h = rw (add-one j, drop-cons l j 0 h)
@@ -87,3 +83,12 @@ module _ (l : List ℕ) (j : ℕ) where
   pub words-done : length l ≤ j → number_words (drop j l) ≡ 10 ∷ []
   unfolding number_words
   words-done h = rw (drop_of_length-le l h)
+
+-- ---- what the functions ask
+pub ruleset lined = (adds-then, length-decimal)
+
+pub ruleset keyed = (length-hex, key-none, length-append)
+
+pub ruleset numbered = (length-decimal, left-all, left-done, words-done)
+
+pub ruleset spelled = (length-turn, length-short)

@@ -1,8 +1,5 @@
 -- A text that goes to a receiver in pieces: what it took, and what still stands in the line. Assumes nothing.
-use mathlib.Core.Path.{◌≡◌, sym, ap, subst, ◌∙◌}
-use mathlib.Core.List.{List, [], ◌++◌, append_assoc, append-nil}
-use Prim.Native.Nat.{ℕ}
-use Rattle.std.proofs.Common.{Result, Ok, Err, OnOk, OnErr}
+use Rattle.std.proofs.Common.{◌≡◌, sym, ap, subst, ◌∙◌, List, [], ◌++◌, append_assoc, append-nil, ℕ, Result, Ok, Err, OnOk, OnErr}
 use Rattle.listing.specs.Line.{Line, Adds}
 
 -- a became b by taking the front of a text, of which the rest stands in the line
@@ -33,13 +30,13 @@ module _ {T : Type 0} (takes : T → List ℕ → T → Type 0) where
       → (a b c : T) (t : Line) (l k : List ℕ) → Gone takes a b t l → k ≡ t.text → stops b k c → stops a l c
   gone-stops stops after a b c t l k f e g = subst (λ m. stops a m c) (ap (λ m. f.front ++ m) e ∙ f.whole) (after a b c f.front k f.went g)
 
--- a text l is found to be k, and what follows it m
-module _ {T : Type 0} (takes : T → List ℕ → T → Type 0) (a b c : T) (l k n m : List ℕ) (e : l ≡ k) (f : k ++ n ≡ m) where
+-- a text l, and what follows it
+module _ {T : Type 0} (takes : T → List ℕ → T → Type 0) (a b c : T) (l n m : List ℕ) (f : l ++ n ≡ m) where
   pub takes-then : ((a b c : T) (l k : List ℕ) → takes a l b → takes b k c → takes a (l ++ k) c) → takes a l b → takes b n c → takes a m c
-  takes-then more g h = subst (λ m. takes a m c) (ap (λ l. l ++ n) e ∙ f) (more a b c l n g h)
+  takes-then more g h = subst (λ m. takes a m c) f (more a b c l n g h)
 
   pub stops-then : (stops : T → List ℕ → T → Type 0) → ((a b c : T) (l k : List ℕ) → takes a l b → stops b k c → stops a (l ++ k) c) → takes a l b → stops b n c → stops a m c
-  stops-then stops after g h = subst (λ m. stops a m c) (ap (λ l. l ++ n) e ∙ f) (after a b c l n g h)
+  stops-then stops after g h = subst (λ m. stops a m c) f (after a b c l n g h)
 
 -- failed at the front of a text, it failed at the text
 pub stops-in : {T : Type 0} (stops : T → List ℕ → T → Type 0) → ((a b : T) (l k : List ℕ) → stops a l b → stops a (l ++ k) b) → (a b : T) (l k m : List ℕ) → l ++ k ≡ m → stops a l b → stops a m b

@@ -1,14 +1,6 @@
 -- The pieces that a receiver takes, one after the other, are the paper's text; and what a fit page gives the functions that list it. Assumes nothing.
-use mathlib.Core.Path.{◌≡◌, refl, sym, ap, ◌∙◌}
-use mathlib.Core.Bool.{Bool, true, false}
-use mathlib.Core.List.{List, [], ◌∷◌, ◌++◌, map, append-nil, append_assoc}
-use Prim.Native.Nat.{ℕ, zero, suc, ◌+◌, ◌*◌, ◌-◌, ◌≤◌, ◌<◌}
-use native.Mathlib.Nat.{zero-add, add-zero, suc-add}
+use Rattle.std.proofs.Common.{◌≡◌, refl, sym, ap, ◌∙◌, Bool, true, false, List, [], ◌∷◌, ◌++◌, map, append-nil, append_assoc, ℕ, zero, suc, ◌+◌, ◌*◌, ◌-◌, ◌≤◌, ◌<◌, zero-add, add-zero, suc-add, arith, eq-eqb, ne_eqb, length, get_or, take, drop, length-drop, take_all}
 use native.Mathlib.Decide.{dec_le}
-use native.Mathlib.Omega.{arith}
-use borrow.Author.Tests.{eq-eqb, ne_eqb}
-use lib.ListN.{length, get_or, take, drop, length-drop}
-use lib.Seq.{take_all}
 use Rattle.keys.specs.Choice.{pick}
 use Rattle.paper.specs.Lists.{tab}
 use Rattle.paper.specs.Page.{slot_at, slot_of, prefix_of, suffix_of, value_at, body_bytes, Row, row_of, Frame, frame_of, numbers_of, header_of, view_of}
@@ -22,14 +14,19 @@ use Rattle.octets.specs.Bytes.{le}
 use Rattle.paper.specs.Printed.{verdict_line, space_line, entry_line, entry_lines, page_text, refused_line, printed}
 use Rattle.paper.proofs.Sorted.{never}
 use Rattle.paper.proofs.Fit.{Fit, fit, length-rows, placed, effective-used}
+use Rattle.listing.proofs.Writing.{adds_first, adds-then, adds-size}
+use Rattle.listing.proofs.Going.{gone-none}
+use Rattle.listing.specs.Line.{Line, Adds}
 use Rattle.listing.specs.Texts.{verdict_text, space_text, line_text, lines_text}
 use Rattle.listing.specs.Pieces.{Listable}
 use mir.Val.{bool_byte}
 use Rattle.std.specs.Result.{result_unwrap_or}
-use Rattle.std.specs.Prelude.{Result}
-use Rattle.paper.specs.declared.refusal.Refusal.{Refusal}
 
 -- ---- the entries' lines
+pub lines-begin : (w : ℕ) (p : List ℕ) (n : ℕ) → lines_text w p n 0 0 ≡ []
+unfolding lines_text
+lines-begin w p n = refl
+
 module _ (w : ℕ) (p : List ℕ) (n : ℕ) where
   lines_append : (i a b : ℕ) → lines_text w p n i (a + b) ≡ lines_text w p n i a ++ lines_text w p n (i + a) b
   unfolding lines_text
@@ -139,10 +136,12 @@ module _ (w : ℕ) (p : List ℕ) (layout f : ℕ) (l : layout ≡ pick (layout_
   unfolding page_text
   unfit_is h = rw (ne_eqb (fit_of w p) 0 (λ q. omega arith), append-nil, verdict_is w p, ← l, ← e)
 
-  pub fit_is : (h : Header) → f ≤ 0 → h ≡ header_of p → (verdict_text layout f ++ space_text h) ++ lines_text w p h.prefix_len 0 h.count ≡ page_text w p
+  pub fit_is : (h : Header) (t u v : Line) (k : List ℕ) → f ≤ 0 → h ≡ header_of p → t.text ≡ [] → Adds t (verdict_text layout f) u → Adds u (space_text h) v → k ≡ v.text
+      → k ++ lines_text w p h.prefix_len 0 h.count ≡ page_text w p
   unfolding page_text
-  fit_is h z q =
-      rw (append_assoc (verdict_text layout f) (space_text h) (lines_text w p h.prefix_len 0 h.count))
+  fit_is h t u v k z q x g y r =
+      let front = r ∙ adds_first t v _ x (adds-then t u v _ _ g y) in
+      rw (front, append_assoc (verdict_text layout f) (space_text h) (lines_text w p h.prefix_len 0 h.count))
       (rw (eq-eqb (fit_of w p) 0 (omega arith), verdict_is w p, space_is p, listing_lines w p, ← q, ← l, ← e))
 
 -- ---- what an input prints: a refusal, or its page
@@ -165,3 +164,10 @@ prints-page (w ∷ p) b h e f =
 
 pub page-length : (l : List ℕ) → length l ≡ 16385 → length (take (length l - 1) (drop 1 l)) ≡ 16384
 page-length l h = rw (take_all (length l - 1) (drop 1 l) (simp length-drop (omega arith)), length-drop) (omega arith)
+
+-- ---- what the functions ask
+pub ruleset inputs = (prints-length, prints-width, prints-page)
+
+pub ruleset paged = (adds_first, adds-size, le-zero, listable, spaced, unfit_is)
+
+pub ruleset listed = (lines-begin, gone-none)

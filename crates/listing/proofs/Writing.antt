@@ -1,10 +1,6 @@
 -- Texts written one after the other, and the parts of an entry's line. Assumes nothing.
-use mathlib.Core.Path.{◌≡◌, refl, sym, ap, ◌∙◌}
-use mathlib.Core.List.{List, [], ◌∷◌, ◌++◌, append-nil, append_assoc}
-use Prim.Native.Nat.{ℕ, ◌+◌, ◌*◌, ◌≤◌, ◌<◌, min}
+use Rattle.std.proofs.Common.{◌≡◌, refl, sym, ap, ◌∙◌, List, [], ◌∷◌, ◌++◌, append_assoc, ℕ, ◌+◌, ◌*◌, ◌≤◌, ◌<◌, min, arith, length, length-append}
 use native.Mathlib.Decide.{dec_le}
-use native.Mathlib.Omega.{arith}
-use lib.ListN.{length, length-append}
 use Rattle.octets.specs.Bytes.{le}
 use Rattle.paper.specs.Page.{body_bytes}
 use Rattle.paper.specs.Printed.{decimal, number_words, hex_bytes, hex_key, entry_line}
@@ -23,8 +19,8 @@ pub adds-size : (a b : Line) (l : List ℕ) → Adds a l b → length b.text + b
 adds-size a b l f = rw (f.text, length-append) (omega (arith, f.room))
 
 -- where no text stood
-pub adds-first : (a b : Line) (t : List ℕ) → a.text ≡ [] → Adds a t b → b.text ≡ t
-adds-first a b t e f = f.text ∙ ap (λ l. l ++ t) e
+pub adds_first : (a b : Line) (t : List ℕ) → a.text ≡ [] → Adds a t b → b.text ≡ t
+adds_first a b t e f = f.text ∙ ap (λ l. l ++ t) e
 
 -- b is the line a with a text l behind it, but for what of that is left
 pub record Left (a : Line) (l : List ℕ) (b : Line) (left : List ℕ) : Type 0 where
@@ -44,14 +40,11 @@ left-less a b d l k m f g =
 pub left-done : (a b d : Line) (l k : List ℕ) → Left a l b k → Adds b k d → Adds a l d
 left-done a b d l k f g = record { text = g.text ∙ sym f.text; room = omega (arith, f.room, g.room) }
 
-pub left-none : (a b : Line) (l : List ℕ) → Left a l b [] → Adds a l b
-left-none a b l f = record { text = sym (f.text ∙ append-nil b.text); room = omega (arith, f.room) }
-
 -- ---- keys in hex
-hex_append : (a b : List ℕ) → hex_bytes (a ++ b) ≡ hex_bytes a ++ hex_bytes b
+pub hex-append : (a b : List ℕ) → hex_bytes (a ++ b) ≡ hex_bytes a ++ hex_bytes b
 unfolding hex_bytes
-hex_append [] b = refl
-hex_append (x ∷ a) b = rw (hex_append a b)
+hex-append [] b = refl
+hex-append (x ∷ a) b = rw (hex-append a b)
 
 no_bytes : (l : List ℕ) → length l ≡ 0 → l ≡ []
 no_bytes [] e = refl
@@ -67,7 +60,7 @@ key_some [] h = absurd (omega arith)
 key_some (x ∷ l) h = refl
 
 pub key-hexed : (a b : List ℕ) → 0 < length (a ++ b) → hex_key (a ++ b) ≡ hex_bytes a ++ hex_bytes b
-key-hexed a b h = key_some (a ++ b) h ∙ hex_append a b
+key-hexed a b h = key_some (a ++ b) h ∙ hex-append a b
 
 -- the line of an entry: its number and its key, and then its value as the only number of a line
 pub entry-words : (i : ℕ) (k : List ℕ) (v : ℕ) → (decimal i ++ (32 ∷ hex_key k)) ++ number_words (v ∷ []) ≡ entry_line i (record { key = k; value = v })

@@ -9,11 +9,9 @@ use Rattle.listing.specs.declared.receiver.Sums.{Sums}
 
 -- ---- sums
 pub summed-nil : (a : Sums) → a ≡ summed a []
-unfolding summed
 summed-nil a = refl
 
 summed_both : (a : Sums) (l k : List ℕ) → summed (summed a l) k ≡ summed a (l ++ k)
-unfolding summed
 summed_both a [] k = refl
 summed_both a (x ∷ l) k = summed_both (one_more a x) l k
 

@@ -1,6 +1,6 @@
 // What the listing program prints for an input: the verdicts, the space numbers and the entries. An error of any function here
 // is the writer's: none comes where the text is summed.
-ghost use Rattle.std.specs.Prelude.{◌≡◌, ◌+◌, ◌<◌, ◌≤◌, true, length, Ok, IfOk, IfErr, OnOk, OnErr};
+ghost use Rattle.std.specs.Prelude.{◌≡◌, ◌+◌, ◌≤◌, true, length, IfOk, IfErr, OnOk, OnErr};
 ghost use Rattle.std.specs.Io.KnownBytes.{Appends};
 ghost use Rattle.keys.specs.Choice.{pick};
 ghost use Rattle.paper.specs.Calls.{is_width};
@@ -25,40 +25,28 @@ use verdict::{fit, layout};
 use view::key::KeyView;
 
 // Prints what the input asks for, a width byte and a page (mode 0), or sums it up (any other mode).
+#[tactic(auto, using(crate::proofs::Telling::moded))]
 pub fn print<W: Write>(to: &mut W, input: &[u8], mode: u8) -> io::Result<Sink>
     ensures ok { IfOk result (λ s. s ≡ told (begun mode) (printed input.now)) }
     ensures bytes { OnOk result (Appends (W.contents to.old) (W.contents to.new) (shown mode (printed input.now))) }
     ensures err { OnErr result (mode ≡ 0) }
     ensures left { OnErr result (Stopped (W.contents to.old) (W.contents to.new) (shown mode (printed input.now))) }
 {
+    let mut sums = Sums::default();
     match Mode::from(mode) {
         Mode::Printed => print_input(&mut Printer { to }, input)?,
-        Mode::Summed => return sum_up(input, mode),
+        Mode::Summed => print_input(&mut sums, input)?,
     }
     Ok(Sink {
         mode,
-        h1: 0,
-        h2: 0,
-        len: 0,
-    })
-}
-
-// Sums up what is printed for an input.
-fn sum_up(input: &[u8], mode: u8) -> io::Result<Sink>
-    requires { 0 < mode }
-    ensures { result ≡ Ok (told (begun mode) (printed input.now)) }
-{
-    let mut sums = Sums::default();
-    print_input(&mut sums, input)?;
-    Ok(Sink {
-        mode,
-        h1: sums.h1 as u64,
-        h2: sums.h2 as u64,
-        len: sums.len as u64,
+        h1: u64::from(sums.h1),
+        h2: u64::from(sums.h2),
+        len: u64::from(sums.len),
     })
 }
 
 // Tells a receiver what is printed for an input.
+#[tactic(auto, using(crate::proofs::Writing::adds_first))]
 fn print_input<T: Receiver>(to: &mut T, input: &[u8]) -> io::Result<()>
     ensures ok { OnOk result (T.takes to.old (printed input.now) to.new) }
     ensures left { OnErr result (T.stops to.old (printed input.now) to.new) }
@@ -104,25 +92,29 @@ impl Refused {
 }
 
 // The page of an input, or why the input is refused.
+#[tactic(auto, using(crate::proofs::Joined::inputs))]
 fn page_of(input: &[u8]) -> Result<Page<'_>, Refused>
     ensures ok { IfOk result (λ page. page_text page.width page.bytes.now ≡ printed input.now) }
     ensures err { IfErr result (λ r. refused_line (number_of r) ≡ printed input.now) }
 {
-    if input.len() != 16385 {
-        return Err(Refused::Length);
+    match input {
+        [width, bytes @ ..] if bytes.len() == 16384 => {
+            let width = *width;
+            if admit::known_width(width) {
+                Ok(Page { bytes, width })
+            } else {
+                Err(Refused::Width)
+            }
+        }
+        _ => Err(Refused::Length),
     }
-    let width = input[0];
-    if !admit::known_width(width) {
-        return Err(Refused::Width);
-    }
-    Ok(Page {
-        bytes: &input[1..],
-        width,
-    })
 }
 
+// A receiver and the text for it are handed over side by side: of a struct of both each method would have to say that its two
+// references are still the same.
 impl Page<'_> {
     // Tells the page by the numbers of its verdicts. Nothing follows the first line if the page is not fit.
+    #[tactic(auto, using(crate::proofs::Joined::paged))]
     fn print_page<T: Receiver>(
         &self,
         to: &mut T,
@@ -145,6 +137,7 @@ impl Page<'_> {
     }
 
     // Tells the lines of all entries, as many at a time as the text has room for: none is longer than 65,100 bytes.
+    #[tactic(auto, using(crate::proofs::Joined::listed))]
     fn print_entries<T: Receiver>(&self, to: &mut T, h: Header, text: &mut Text) -> io::Result<()>
         requires { Listable self.now.width self.now.bytes.now h.count h.prefix_len × (65100 ≤ length text.old.text + text.old.room) }
         ensures ok { OnOk result (T.takes to.old (lines_text self.now.width self.now.bytes.now h.prefix_len 0 h.count) to.new) }

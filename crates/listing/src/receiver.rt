@@ -12,7 +12,7 @@ use std::io::Write;
 
 // Takes a text piece by piece.
 pub(crate) trait Receiver {
-    // What takes a text becomes; and what is left of it where it fails at a text.
+    // What a receiver becomes that takes a text, and what is left of one that fails at it.
     ghost takes: { Self → List ℕ → Self → Type 0 };
 
     ghost stops: { Self → List ℕ → Self → Type 0 };
@@ -56,24 +56,22 @@ impl<'a, W: Write> Receiver for Printer<'a, W> {
     ghost stops_after = { λ a b c l k f g. (g.0 ∙ f.0, stopped-after _ _ _ l k f.1 g.1) };
 }
 
-// Writes all of a piece, as `write_all` does; a failure leaves a front of it behind what the writer held.
+// Writes all of a piece, as `write_all` does; a failure leaves a front of it behind what the writer held. The loop is written here
+// since the contract of `write_all` says nothing after an error.
 fn write_piece<W: Write>(to: &mut W, piece: &[u8]) -> io::Result<()>
     ensures ok { OnOk result (Appends (W.contents to.old) (W.contents to.new) piece.now) }
     ensures left { OnErr result (Stopped (W.contents to.old) (W.contents to.new) piece.now) }
 {
-    let mut done = 0;
+    let mut rest = piece;
     for _ in 0..u64::MAX {
-        if done == piece.len() {
+        if rest.is_empty() {
             return Ok(());
         }
-        match to.write(&piece[done..]) {
+        match to.write(rest) {
             Ok(0) => return Err(io::Error::from(io::ErrorKind::WriteZero)),
-            Ok(n) => done += n,
-            Err(e) => {
-                if e.kind() != io::ErrorKind::Interrupted {
-                    return Err(e);
-                }
-            }
+            Ok(n) => rest = &rest[n..],
+            Err(e) if e.kind() == io::ErrorKind::Interrupted => {}
+            Err(e) => return Err(e),
         }
     }
     Err(io::Error::from(io::ErrorKind::Interrupted))
@@ -106,9 +104,7 @@ impl Receiver for Sums {
     ghost stops = { λ a l b. ⊥ };
 
     fn take(&mut self, piece: &[u8]) -> io::Result<()> {
-        for &x in piece {
-            *self = self.add(x);
-        }
+        *self = piece.iter().fold(*self, |sums, x| sums.add(*x));
         Ok(())
     }
 

@@ -1,11 +1,12 @@
-// A text in the making, in a buffer of a fixed size.
-ghost use Rattle.std.specs.Prelude.{◌≡◌, ℕ, [], ◌∷◌, ◌++◌, ◌+◌, ◌*◌, ◌≤◌, ◌<◌, length};
+// A text in the making, in a lent buffer.
+ghost use Rattle.std.specs.Prelude.{◌≡◌, [], ◌∷◌, ◌+◌, ◌*◌, ◌≤◌, ◌<◌, length};
 ghost use Rattle.listing.specs.Line.{Adds, Fresh};
 ghost use Rattle.paper.specs.Printed.{decimal, number_words, hex_digit, hex_bytes};
 
 use std::marker::Model;
 
-// A contract sees its bytes, and how many there is room for.
+// A contract sees the bytes that stand, and how many more there is room for. Digits are put here and not by `write!`: its contract
+// leaves open whether it fails where there is room, and no line may fail.
 #[derive(Drop)]
 pub(crate) struct Text<'a> {
     bytes: &'a mut [u8],
@@ -66,12 +67,13 @@ impl<'a> Text<'a> {
         requires { length word.now ≤ self.old.room }
         ensures { Adds self.old word.now self.new }
     {
-        for &mark in word {
-            self.push(mark);
-        }
+        let end = self.len + word.len();
+        self.bytes[self.len..end].copy_from_slice(word);
+        self.len = end;
     }
 
     // A number more, in decimal.
+    #[tactic(auto, using(crate::proofs::Decimals::spelled))]
     pub(crate) fn decimal(&mut self, n: u64)
         requires { length (decimal n) ≤ self.old.room }
         ensures { Adds self.old (decimal n) self.new }
@@ -87,13 +89,13 @@ impl<'a> Text<'a> {
         requires { 2 * length bytes.now ≤ self.old.room }
         ensures { Adds self.old (hex_bytes bytes.now) self.new }
     {
-        for &b in bytes {
-            self.push(digit(b / 16));
-            self.push(digit(b % 16));
-        }
+        let end = self.len + 2 * bytes.len();
+        write_hex(bytes, &mut self.bytes[self.len..end]);
+        self.len = end;
     }
 
     // Numbers, a blank before each, and the end of the line.
+    #[tactic(auto, using(crate::proofs::Decimals::numbered))]
     pub(crate) fn numbers(&mut self, numbers: &[u64])
         requires { 21 * length numbers.now + 1 ≤ self.old.room }
         ensures { Adds self.old (number_words numbers.now) self.new × (self.old.room ≤ self.new.room + (21 * length numbers.now + 1)) }
@@ -106,7 +108,19 @@ impl<'a> Text<'a> {
     }
 }
 
+// Bytes in hex, which fill `out`.
+fn write_hex(bytes: &[u8], out: &mut [u8])
+    requires { length out.old ≡ 2 * length bytes.now }
+    ensures { out.new ≡ hex_bytes bytes.now }
+{
+    for (i, b) in bytes.iter().enumerate() {
+        out[2 * i] = digit(*b / 16);
+        out[2 * i + 1] = digit(*b % 16);
+    }
+}
+
 // The hex digit of a number below sixteen.
+#[tactic(auto, unfolding(paper::specs::Printed::hex_digit))]
 fn digit(d: u8) -> u8
     requires { d < 16 }
     ensures { result ≡ hex_digit d }

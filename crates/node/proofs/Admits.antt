@@ -1,29 +1,19 @@
 -- The judgements that every read begins with, case by case: what code knows at each answer, and what an answer says of the page. Assumes nothing.
-use mathlib.Core.Path.{◌≡◌, refl, sym, ap}
-use mathlib.Core.Bool.{Bool, true, false}
-use mathlib.Core.List.{List, [], ◌∷◌}
-use Prim.Native.Nat.{ℕ, ◌*◌, ◌≤◌, ◌<◌}
-use native.Mathlib.Omega.{arith}
-use borrow.Author.Tests.{eqb-true, leb-true, le-ltb, lt-ltb}
-use lib.Dec.{leb, eqb}
-use lib.ListN.{length}
+use Rattle.std.proofs.Common.{◌≡◌, refl, true, false, List, ℕ, ◌*◌, ◌≤◌, ◌<◌, arith, eqb-true, leb-true, le-ltb, lt-ltb, leb, eqb, length, Ok, Err}
 use Rattle.octets.specs.Bytes.{le}
-use Rattle.keys.specs.Choice.{pick}
 use Rattle.paper.specs.Page.{slot_at, place, slot_of, frame_of, numbers_of, header_of}
 use Rattle.paper.specs.Verdicts.{slot_payload, within, header_rules}
-use Rattle.paper.specs.Refusals.{check, judge}
+use Rattle.paper.specs.Refusals.{judge}
 use Rattle.paper.specs.Calls.{is_width}
 use Rattle.paper.specs.declared.page.Slot.{Slot}
-use Rattle.paper.specs.declared.page.Header.{Header}
 use Rattle.paper.specs.declared.refusal.Refusal.{Refusal}
 use Rattle.paper.specs.declared.refusal.Refusal.TheVariants.{SlotNumber, Payload}
 use Rattle.paper.specs.Lists.{all}
 use Rattle.paper.proofs.Lists.{both_parts}
 use Rattle.paper.proofs.Fit.{Rules, rules}
-use Rattle.paper.proofs.Sorted.{never}
 use Rattle.paper.proofs.Holding.{Hold, judge_hold, answer_holds, done_holds, refused-judge}
+use Rattle.node.proofs.Rules.{rules_of_lem}
 use Rattle.node.specs.Admit.{admit_checks, admit_of, slot_checks, slot_read_of}
-use Rattle.std.specs.Prelude.{Ok, Err}
 
 -- ---- a page that is admitted
 -- what is known of it
@@ -55,6 +45,12 @@ module _ (w : ℕ) (p : List ℕ) (n : ℕ) where
       let A = admitted e in
       let R = A.rules in
       (omega (arith, A.size), rw k (omega (arith, R.start, R.order, R.top)))
+
+  pub admitted-size : admit_of w p n ≡ Ok tt → 16384 ≤ length p
+  admitted-size e = (slots-within e (le 2 p 2) refl).0
+
+  pub admitted-slots : admit_of w p n ≡ Ok tt → (count : ℕ) → count ≡ le 2 p 2 → 8 * count ≤ 16256
+  admitted-slots e count k = (slots-within e count k).1
 
   -- and so does its prefix
   pub prefix_lies : admit_of w p n ≡ Ok tt → (header_of p).prefix_len ≤ 16256
@@ -105,3 +101,7 @@ module _ (w : ℕ) (p : List ℕ) (count end i : ℕ) where
   pub slot-refused : (q : Refusal) → slot_read_of w p count end i ≡ Err q → {A : Type 0} (a : A) (r : Refusal → A) → judge (slot_checks w p count end i) a r ≡ r q
   unfolding slot_read_of
   slot-refused q e a r = refused-judge (slot_checks w p count end i) (slot_of p i) q e a r
+
+pub ruleset admitting = (rules_of_lem)
+
+pub ruleset visiting = (slot-none, slot-out, slot-in)

@@ -1,12 +1,6 @@
 -- The key of an entry that may be read is prefix and suffix as the code finds them, and the copy's three ways out. Assumes nothing.
-use mathlib.Core.Path.{◌≡◌, sym, ap, ◌∙◌}
-use mathlib.Core.Bool.{Bool, true, false}
-use mathlib.Core.List.{List, [], ◌∷◌, ◌++◌}
-use Prim.Native.Nat.{ℕ, ◌+◌, ◌≤◌, ◌<◌}
-use native.Mathlib.Omega.{arith}
-use borrow.Author.Tests.{le-leb, lt-leb}
-use lib.Dec.{leb}
-use lib.ListN.{length, length-append}
+use Rattle.std.proofs.Common.{◌≡◌, sym, ap, ◌∙◌, Bool, true, false, List, [], ◌∷◌, ◌++◌, ℕ, ◌+◌, ◌≤◌, ◌<◌, arith, le-leb, leb, length, length-append, Ok, Err}
+use borrow.Author.Tests.{lt-leb}
 use Rattle.octets.specs.Bytes.{le, put}
 use Rattle.keys.specs.Choice.{pick}
 use Rattle.paper.specs.Page.{slot_of, frame_of, prefix_of, suffix_of, body_bytes}
@@ -18,7 +12,6 @@ use Rattle.paper.specs.declared.refusal.Refusal.TheVariants.{BufferLength}
 use Rattle.node.specs.Admit.{opened_of}
 use Rattle.node.proofs.Entries.{Entered, entered, opened-judge, shut-judge}
 use Rattle.node.proofs.Spelling.{length-prefix_of, length-suffix_of}
-use Rattle.std.specs.Prelude.{Ok, Err}
 
 module _ (w : ℕ) (p : List ℕ) (i : ℕ) (s : Slot) (e : opened_of w p i ≡ Ok s) where
   abbrev E : Entered w p i s
@@ -74,3 +67,6 @@ module _ (w : ℕ) (p : List ℕ) (i : ℕ) (s : Slot) (e : opened_of w p i ≡ 
 pub copy_shut : (w : ℕ) (p : List ℕ) (i : ℕ) (out : List ℕ) (q : Refusal) → opened_of w p i ≡ Err q → (Err q ≡ copy_of w p i out) × (out ≡ copy_buffer w p i out)
 unfolding copy_of copy_buffer copy_checks
 copy_shut w p i out q e = (sym (shut-judge w p i q e _ _ Err), sym (shut-judge w p i q e _ _ (λ (r : Refusal). out)))
+
+-- what an entry that may be read says of its places
+pub ruleset places = (size-least, prefix-most, suffix_within)

@@ -1,17 +1,10 @@
 -- An entry's tests are those of the page and those of its slot, one after the other; and what an entry that may be read says of the page.
 -- Assumes nothing.
-use mathlib.Core.Path.{◌≡◌, refl, sym, ◌∙◌}
-use mathlib.Core.Bool.{true, false}
-use mathlib.Core.List.{List, [], ◌++◌}
-use Prim.Native.Nat.{ℕ, ◌+◌, ◌≤◌, min}
-use native.Mathlib.Omega.{arith}
+use Rattle.std.proofs.Common.{◌≡◌, refl, sym, ◌∙◌, true, false, List, [], ◌++◌, ℕ, ◌+◌, ◌≤◌, min, arith, eqb-true, ne_eqb, ltb, eqb, length, Ok, Err}
 use native.Mathlib.Decide.{dec_le}
-use borrow.Author.Tests.{eqb-true, ne_eqb}
-use lib.Dec.{ltb, eqb}
-use lib.ListN.{length}
 use Rattle.octets.specs.Bytes.{le}
 use Rattle.paper.specs.Lists.{all}
-use Rattle.paper.specs.Page.{slot_of, frame_of, numbers_of, header_of, value_at}
+use Rattle.paper.specs.Page.{slot_of, frame_of, numbers_of, value_at}
 use Rattle.paper.specs.Verdicts.{slot_payload, within, header_rules}
 use Rattle.paper.specs.Refusals.{Check, judge}
 use Rattle.paper.specs.Calls.{is_width, entry_tests, read_entry}
@@ -22,8 +15,7 @@ use Rattle.paper.proofs.Sorted.{never}
 use Rattle.paper.proofs.Fit.{Lie, within_fact, Rules, rules}
 use Rattle.paper.proofs.Holding.{Hold, judge_hold, answer_holds, refused-judge, judge-append}
 use Rattle.node.specs.Admit.{admit_checks, admit_of, slot_checks, slot_read_of, opened_of}
-use Rattle.node.proofs.Admits.{admitted-judge, refused-admit}
-use Rattle.std.specs.Prelude.{Ok, Err}
+use Rattle.node.proofs.Admits.{admitted-judge, refused-admit, admitted-size, admitted-slots}
 
 -- a known width is at most 8
 pub width_whole : (w : ℕ) → is_width w ≡ true → min w 8 ≡ w
@@ -100,6 +92,9 @@ module _ (w : ℕ) (p : List ℕ) (i : ℕ) where
   unfolding read_entry
   entry-shut q e = shut-judge q e [] (Ok (record { slot = slot_of p i; value = le w p (value_at (slot_of p i)) })) Err
 
+  pub entry-none : (q : Refusal) → admit_of w p 0 ≡ Err q → read_entry w p i ≡ Err q
+  entry-none q e = entry-shut q (open-refused q e)
+
   -- its value stands within the page
   pub value-within : (s : Slot) → opened_of w p i ≡ Ok s → (at : ℕ) → at ≡ value_at s → at + w ≤ length p
   value-within s e at k = let E = entered s e in let l = E.payload.1 in omega (arith, E.size, l, k)
@@ -111,3 +106,7 @@ module _ (w : ℕ) (p : List ℕ) (i : ℕ) where
       let E = entered s e in
       let width : min w 8 ≡ w = width_whole w E.width in
       opened-judge s e [] (Ok (record { slot = slot_of p i; value = le w p (value_at (slot_of p i)) })) Err ∙ sym (rw (f, width, k, ← E.slot))
+
+pub ruleset opening = (admitted-size, admitted-slots, open_is)
+
+pub ruleset reading = (entry-none, entry-shut, value-within, entry-is)

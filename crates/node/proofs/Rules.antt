@@ -1,12 +1,7 @@
 -- The header rules as code tests them: lengths that are long are counted whole, and a sum stands for a difference. Assumes nothing.
-use mathlib.Core.Path.{◌≡◌, refl, sym, ◌∙◌}
-use mathlib.Core.Bool.{true, ◌&&◌}
-use Prim.Native.Nat.{ℕ, ◌+◌, ◌-◌, ◌≤◌, ◌<◌}
+use Rattle.std.proofs.Common.{◌≡◌, refl, sym, ◌∙◌, true, ◌&&◌, ℕ, ◌+◌, ◌-◌, ◌≤◌, ◌<◌, arith, le-leb, leb, List}
 use native.Mathlib.Decide.{dec_le}
-use native.Mathlib.Omega.{arith}
-use borrow.Author.Tests.{le-leb, lt-leb}
-use lib.Dec.{leb}
-use mathlib.Core.List.{List}
+use borrow.Author.Tests.{lt-leb}
 use Rattle.keys.specs.Choice.{pick}
 use Rattle.paper.specs.Page.{frame_of, numbers_of, header_of}
 use Rattle.paper.specs.Verdicts.{within, fence_piece, long_within, header_rules}
@@ -56,3 +51,7 @@ rules_of_lem p = refl
 pub rules_in : (h : Header) → rules_of h ≡ true → Rules (frame_in h) (numbers_in h)
 unfolding rules_of
 rules_in h e = rules (frame_in h) (numbers_in h) e
+
+pub ruleset fences = (fence_short, fence_long)
+
+pub ruleset prefixes = (prefix-inline, prefix_long)

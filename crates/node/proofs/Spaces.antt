@@ -1,10 +1,6 @@
 -- The judgements of the space numbers, of need and of forecast, case by case: what code knows at each answer. Assumes nothing.
-use mathlib.Core.Path.{◌≡◌, ap}
-use mathlib.Core.Bool.{true, false}
-use mathlib.Core.List.{List}
-use Prim.Native.Nat.{ℕ, ◌+◌, ◌-◌, ◌≤◌, ◌<◌}
-use borrow.Author.Tests.{eq-eqb, ne_eqb, le-leb, lt-leb}
-use lib.ListN.{length}
+use Rattle.std.proofs.Common.{◌≡◌, ap, true, false, List, ℕ, ◌+◌, ◌-◌, ◌≤◌, ◌<◌, eq-eqb, ne_eqb, le-leb, length, Ok, Err}
+use borrow.Author.Tests.{lt-leb}
 use Rattle.keys.specs.Keys.{common}
 use Rattle.keys.proofs.Prefixes.{common-le}
 use Rattle.paper.specs.Page.{body_bytes, numbers_of, header_of}
@@ -14,11 +10,15 @@ use Rattle.paper.specs.Calls.{is_width, space_read, need_of, forecast_of}
 use Rattle.paper.specs.declared.page.Header.{Header}
 use Rattle.paper.specs.declared.refusal.Refusal.TheVariants.{PageLength, Width, KeyLength, HeaderRules, NotFit, Prefix}
 use Rattle.node.specs.Header.{numbers_in, rules_of}
-use Rattle.node.proofs.Rules.{rules_of_lem}
-use Rattle.std.specs.Prelude.{Ok, Err}
-use Rattle.paper.specs.declared.answers.Forecast.{Forecast}
+use Rattle.node.proofs.Rules.{rules_of_lem, rules_in}
 
 -- ---- the space numbers
+pub space-order : (h : Header) → rules_of h ≡ true → h.start ≤ h.end
+space-order h e = (rules_in h e).order
+
+pub space-top : (h : Header) → rules_of h ≡ true → h.end ≤ 16256
+space-top h e = (rules_in h e).top
+
 numbers_in_lem : (p : List ℕ) (h : Header) → h ≡ header_of p → numbers_in h ≡ numbers_of p
 unfolding header_of
 numbers_in_lem p h e = ap numbers_in e
@@ -71,6 +71,12 @@ module _ (a b : List ℕ) where
   pub prefix-le : (n : ℕ) → n ≡ common a b → (n ≤ length a) × (n ≤ length b)
   prefix-le n e = rw e (common-le a b)
 
+  pub prefix-lower : (n : ℕ) → n ≡ common a b → n ≤ length a
+  prefix-lower n e = (prefix-le n e).0
+
+  pub prefix-upper : (n : ℕ) → n ≡ common a b → n ≤ length b
+  prefix-upper n e = (prefix-le n e).1
+
   pub begin-bytes : (n : ℕ) → n ≡ common a b → fence_bytes n (length a - n) (length b - n) ≡ begin_bytes a b
   unfolding begin_bytes
   begin-bytes n e = rw e
@@ -88,3 +94,9 @@ module _ (a b : List ℕ) where
       → forecast_of a b ≡ Ok (record { prefix_len = n; space = 96 + x })
   unfolding forecast_of judge
   forecast-are n x l m e f = rw (le-leb (length a) 65535 l, le-leb (length b) 65535 m, f, begin-bytes n e, e)
+
+pub ruleset space_numbers = (space-order, space-top, space-length, space-rules, space-over, space-are)
+
+pub ruleset needs = (need-width, need-long, need-short, need-bytes)
+
+pub ruleset forecasts = (prefix-lower, prefix-upper, forecast-lower, forecast-upper, forecast-are)

@@ -1,13 +1,8 @@
 -- Prefix and suffix as code finds them on the page, and a head's four bytes. Assumes nothing.
-use mathlib.Core.Path.{◌≡◌, refl, sym, ◌∙◌}
-use mathlib.Core.List.{List, [], ◌∷◌, ◌++◌}
-use Prim.Native.Nat.{ℕ, ◌+◌, ◌-◌, ◌^◌, ◌/◌, ◌%◌, ◌≤◌, ◌<◌}
+use Rattle.std.proofs.Common.{◌≡◌, refl, sym, ◌∙◌, List, ◌++◌, ℕ, ◌+◌, ◌-◌, ◌^◌, ◌/◌, ◌%◌, ◌≤◌, ◌<◌, arith, zero-add, length-take-le, le-leb, length, take, drop}
 use native.Mathlib.Decide.{dec_le}
-use native.Mathlib.Omega.{arith}
-use native.Mathlib.Nat.{zero-add}
-use lib.Seq.{length-take-le}
-use borrow.Author.Tests.{le-leb, lt-leb}
-use lib.ListN.{length, take, drop}
+use borrow.Author.Tests.{lt-leb}
+use Rattle.std.specs.Int.{w32, to_be_bytes}
 use Rattle.octets.specs.Bytes.{part, big_bytes, put}
 use Rattle.octets.proofs.Put.{put-append}
 use Rattle.octets.proofs.Part.{length-part-le}
@@ -34,13 +29,14 @@ pub prefix_fits : (p l : List ℕ) (n k m : ℕ) → 16384 ≤ length p → n �
 prefix_fits p l n k m h g e f = let q : length l ≡ n = rw e (length-prefix_of p n h g) in omega arith
 
 -- ---- a head
-pub big_four : (v : ℕ) → v < 256 ^ 4 → ◌≡◌ {A = List ℕ} (v / 16777216 ∷ v / 65536 % 256 ∷ v / 256 % 256 ∷ v % 256 ∷ []) (big_bytes 4 v)
+pub big_four : (v : ℕ) → v < 256 ^ 4 → big_bytes 4 v ≡ to_be_bytes w32 v
 unfolding big_bytes
 big_four v h =
+    let a : v / 16777216 % 256 ≡ v / 16777216 = omega arith in
     let b : v / 65536 % 256 ≡ v % 16777216 / 65536 = omega arith in
     let c : v / 256 % 256 ≡ v % 16777216 % 65536 / 256 = omega arith in
     let d : v % 256 ≡ v % 16777216 % 65536 % 256 / 1 = omega arith in
-    rw (b, c, d)
+    rw (a, b, c, d)
 
 -- some of its bytes
 pub length_four : (n v : ℕ) (l : List ℕ) → l ≡ big_bytes 4 v → n ≤ 4 → length (take n l) ≡ n
@@ -68,6 +64,12 @@ length-suffix_of p s h = go (dec_le s.len 4)
     go (yes l) = rw (suffix-short p s l) (length_four s.len s.head (big_bytes 4 s.head) refl l)
     go (no l) = rw (lt-leb s.len 4 (omega arith)) (length-part-le s.len p (96 + s.offset) (suffix-room s.len (96 + s.offset) (length p) (omega arith) h))
 
+pub ruleset suffix_length = (length-suffix_of)
+
 -- ---- both
 pub put_both : (out pre suf : List ℕ) (n : ℕ) → length pre ≡ n → put (put out 0 pre) n suf ≡ put out 0 (pre ++ suf)
 put_both out pre suf n e = sym (put-append out 0 pre suf ∙ rw (zero-add, e))
+
+pub ruleset prefixes = (prefix-inline, prefix-last)
+
+pub ruleset both = (length-prefix_of, put_both)

@@ -1,15 +1,8 @@
 -- The last eight bytes of a key, read where they stand or put together from prefix and suffix, and the trailing id's ways out. Assumes
 -- nothing.
-use mathlib.Core.Path.{◌≡◌, sym, ◌∙◌}
-use mathlib.Core.Bool.{Bool, true, false}
-use mathlib.Core.List.{List, [], ◌∷◌, ◌++◌}
-use Prim.Native.Nat.{ℕ, ◌+◌, ◌-◌, ◌≤◌, ◌<◌}
-use native.Mathlib.Nat.{zero-add}
-use native.Mathlib.Omega.{arith}
-use borrow.Author.Tests.{le-leb, lt-leb}
-use lib.Dec.{leb}
-use lib.ListN.{length, take, drop, length-append, length-drop}
-use lib.Seq.{take_all, get_or-drop, drop-append-le, get_or-append-add}
+use Rattle.std.proofs.Common.{◌≡◌, sym, ◌∙◌, Bool, true, false, List, [], ◌∷◌, ◌++◌, ℕ, ◌+◌, ◌-◌, ◌≤◌, ◌<◌, zero-add, arith, le-leb, leb, length, take, drop, length-append, length-drop, take_all, get_or-drop, get_or-append-add, Ok, Err}
+use borrow.Author.Tests.{lt-leb}
+use lib.Seq.{drop-append-le}
 use Rattle.octets.specs.Bytes.{le, be, put}
 use Rattle.octets.proofs.Alike.{be-alike, be-put-inside, be-part}
 use Rattle.keys.specs.Choice.{pick}
@@ -19,11 +12,10 @@ use Rattle.paper.specs.Calls.{key_at, trailing_of}
 use Rattle.paper.specs.declared.page.Slot.{Slot}
 use Rattle.paper.specs.declared.refusal.Refusal.{Refusal}
 use Rattle.paper.specs.declared.refusal.Refusal.TheVariants.{ShortKey}
-use Rattle.node.specs.Admit.{opened_of}
-use Rattle.node.proofs.Entries.{opened-judge, shut-judge}
+use Rattle.node.specs.Admit.{admit_of, opened_of}
+use Rattle.node.proofs.Entries.{opened-judge, shut-judge, open-refused}
 use Rattle.node.proofs.Spelling.{length-prefix_of, length-suffix_of, suffix-room, put_both}
 use Rattle.node.proofs.Copies.{size-least, prefix-most, suffix_within, key-is, key-length}
-use Rattle.std.specs.Prelude.{Ok, Err}
 
 -- ---- a number read from two lists, one after the other
 -- from a place of the first on, the bytes before that place do not matter
@@ -77,15 +69,7 @@ module _ (w : ℕ) (p : List ℕ) (i : ℕ) (s : Slot) (e : opened_of w p i ≡ 
 
   -- by the prefix length that was read
   module _ (m : ℕ) (f : m ≡ le 2 p 46) where
-    module _ (n : ℕ) (k : n ≡ m + s.len) where
-      pub trailing-short : n < 8 → Err ShortKey ≡ trailing_of w p i
-      trailing-short l = sym (trailing-by false (rw (key-length w p i s e m f) (lt-leb 8 (m + s.len) (omega arith))))
-
-      pub trailing-is : (v : ℕ) → 8 ≤ n → v ≡ be 8 (prefix_of p m ++ suffix_of p s) (m + s.len - 8) → Ok v ≡ trailing_of w p i
-      trailing-is v l g =
-          sym (trailing-by true (rw (key-length w p i s e m f) (le-leb 8 (m + s.len) (omega arith))) ∙ rw (key-length w p i s e m f, key-is w p i s e m f, g))
-
-    pub long-is : (u : ℕ) → u ≡ s.offset + s.len → 8 < s.len → be 8 p (88 + u) ≡ be 8 (prefix_of p m ++ suffix_of p s) (m + s.len - 8)
+    long-is : (u : ℕ) → u ≡ s.offset + s.len → 8 < s.len → be 8 p (88 + u) ≡ be 8 (prefix_of p m ++ suffix_of p s) (m + s.len - 8)
     unfolding suffix_of
     long-is u k long =
         let pre = prefix_of p m in
@@ -94,6 +78,26 @@ module _ (w : ℕ) (p : List ℕ) (i : ℕ) (s : Slot) (e : opened_of w p i ≡ 
         let from : 96 + s.offset + (s.len - 8) ≡ 88 + u = omega arith in
         sym (rw (at, be_beyond 8 pre (suffix_of p s) (s.len - 8), suffix_of, lt-leb s.len 4 (omega arith), be-part 8 s.len p (96 + s.offset) (s.len - 8) (omega arith), from))
 
-pub trailing_shut : (w : ℕ) (p : List ℕ) (i : ℕ) (q : Refusal) → opened_of w p i ≡ Err q → Err q ≡ trailing_of w p i
-unfolding trailing_of
-trailing_shut w p i q e = sym (shut-judge w p i q e _ _ Err)
+    module _ (n : ℕ) (k : n ≡ m + s.len) where
+      pub trailing-short : n < 8 → trailing_of w p i ≡ Err ShortKey
+      trailing-short l = trailing-by false (rw (key-length w p i s e m f) (lt-leb 8 (m + s.len) (omega arith)))
+
+      pub trailing-is : (v : ℕ) → 8 ≤ n → v ≡ be 8 (prefix_of p m ++ suffix_of p s) (m + s.len - 8) → trailing_of w p i ≡ Ok v
+      trailing-is v l g =
+          trailing-by true (rw (key-length w p i s e m f) (le-leb 8 (m + s.len) (omega arith))) ∙ rw (key-length w p i s e m f, key-is w p i s e m f, g)
+
+      -- v is what was read before the place u where a long suffix ends
+      pub trailing-long : (u v : ℕ) → 8 ≤ n → u ≡ s.offset + s.len → 8 < s.len → v ≡ be 8 p (88 + u) → trailing_of w p i ≡ Ok v
+      trailing-long u v l k long g = trailing-is v l (g ∙ long-is u k long)
+
+module _ (w : ℕ) (p : List ℕ) (i : ℕ) (q : Refusal) where
+  pub trailing_shut : opened_of w p i ≡ Err q → trailing_of w p i ≡ Err q
+  unfolding trailing_of
+  trailing_shut e = shut-judge w p i q e _ _ Err
+
+  pub trailing-none : admit_of w p 0 ≡ Err q → trailing_of w p i ≡ Err q
+  trailing-none e = trailing_shut (open-refused w p i q e)
+
+pub ruleset acrosses = (rest-within, rest-fits, across-is)
+
+pub ruleset trailing = (size-least, prefix-most, suffix_within, trailing-none, trailing_shut)

@@ -1,12 +1,11 @@
 -- The tests that every read begins with, and those of a slot that is read: 1, 2, 3, 4 and 10, 14.
 use Rattle.std.specs.Prelude.{ℕ, List, [], ◌∷◌, leb, ltb, Result, Ok, Err, ⊤}
-use Rattle.paper.specs.Page.{slot_of, header_of}
+use Rattle.paper.specs.Page.{slot_of}
 use Rattle.paper.specs.Verdicts.{slot_payload, within}
 use Rattle.paper.specs.Refusals.{Check, check, judge}
 use Rattle.paper.specs.Calls.{page_length, width_known, rules_hold, entry_tests}
 use Rattle.paper.specs.declared.refusal.Refusal.{Refusal}
-use Rattle.paper.specs.declared.refusal.Refusal.TheVariants.{PageLength, KeyLength, HeaderRules, SlotNumber, Payload}
-use Rattle.paper.specs.declared.page.Header.{Header}
+use Rattle.paper.specs.declared.refusal.Refusal.TheVariants.{KeyLength, SlotNumber, Payload}
 use Rattle.paper.specs.declared.page.Slot.{Slot}
 
 -- 1, 2, 3, 4, of a key of n bytes

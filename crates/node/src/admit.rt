@@ -16,6 +16,7 @@ pub fn known_width(width: u8) -> bool
 
 // Whether a page may be read by a call whose key has `key_len` bytes: 1, 2, 3 and 4 in this order. The header stays where it is: a
 // call that goes on reads the numbers that it needs.
+#[tactic(auto, using(crate::proofs::Admits::admitting), unfolding(paper::specs::Refusals::judge, crate::specs::Admit::admit_of))]
 pub fn admit(p: &[u8], width: u8, key_len: usize) -> Result<(), Refusal>
     ensures { result ≡ admit_of width p.now key_len }
 {

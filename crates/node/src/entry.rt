@@ -12,6 +12,7 @@ use paper::refusal;
 use paper::refusal::Refusal;
 
 // Slot `i` of a page that `admit::admit` admits: 10 and 14 in this order; else the slot.
+#[tactic(auto, using(crate::proofs::Entries::opening))]
 pub fn open_entry(p: &[u8], width: u8, i: usize) -> Result<Slot, Refusal>
     requires { admit_of width p.now 0 ≡ Ok tt }
     ensures { result ≡ opened_of width p.now i }
@@ -27,6 +28,7 @@ pub fn value_at(s: Slot) -> usize
 }
 
 // Entry `i`: its slot and its value. Refuses 1, 2, 4, 10, 14.
+#[tactic(auto, using(crate::proofs::Entries::reading), unfolding(paper::specs::Refusals::refusal_of))]
 pub fn entry(p: &[u8], width: u8, i: usize) -> Result<EntryRead, Refusal>
     ensures { result ≡ read_entry width p.now i }
 {

@@ -8,6 +8,7 @@ use octets::number;
 use paper::page::{Header, Slot};
 
 // The slot in the eight bytes from `at` on.
+#[tactic(auto, unfolding(paper::specs::Page::slot_at))]
 pub fn read_slot(p: &[u8], at: usize) -> Slot
     requires { at + 8 ≤ length p.now }
     ensures { result ≡ slot_at p.now at }
@@ -20,6 +21,7 @@ pub fn read_slot(p: &[u8], at: usize) -> Slot
 }
 
 // The numbers of the header.
+#[tactic(auto, unfolding(paper::specs::Page::header_of, paper::specs::Page::frame_of, paper::specs::Page::numbers_of))]
 pub fn read_header(p: &[u8]) -> Header
     requires { 96 ≤ length p.now }
     ensures { result ≡ header_of p.now }
@@ -41,6 +43,7 @@ pub fn read_header(p: &[u8]) -> Header
 }
 
 // Whether a long fence lies in end..16,256.
+#[tactic(auto, using(crate::proofs::Rules::fences))]
 fn long_within(end: u16, s: Slot) -> bool
     ensures { result ≡ long_within end s }
 {
@@ -51,6 +54,7 @@ fn long_within(end: u16, s: Slot) -> bool
 }
 
 // Whether the prefix is inline, or fills the body's last bytes at or above end.
+#[tactic(auto, using(crate::proofs::Rules::prefixes))]
 fn prefix_within(end: u16, prefix_len: u16) -> bool
     ensures { result ≡ prefix_held end prefix_len }
 {

@@ -16,6 +16,7 @@ pub fn suffix_bytes(len: u16) -> usize
 }
 
 // Whether the payload of a slot lies in end..16,256.
+#[tactic(auto, unfolding(paper::specs::Verdicts::within))]
 pub fn payload_within(s: Slot, end: u16, width: u8) -> bool
     ensures { result ≡ within end (slot_payload width s) }
 {
@@ -24,6 +25,7 @@ pub fn payload_within(s: Slot, end: u16, width: u8) -> bool
 }
 
 // Slot `i` of `count`: 10 where it is not there, 14 where its payload lies outside end..16,256.
+#[tactic(auto, using(crate::proofs::Admits::visiting))]
 pub fn visit_slot(p: &[u8], count: u16, end: u16, width: u8, i: usize) -> Result<Slot, Refusal>
     requires { (16384 ≤ length p.now) × (8 * count ≤ 16256) }
     ensures { result ≡ slot_read_of width p.now count end i }

@@ -10,6 +10,7 @@ use paper::answers::{Forecast, Space};
 use paper::refusal::Refusal;
 
 // The bytes of the body that `n` bytes take, where up to `most` live elsewhere.
+#[tactic(auto, unfolding(paper::specs::Page::body_bytes))]
 pub fn body_bytes(most: usize, n: usize) -> usize
     ensures { (result ≡ body_bytes most n) × (result ≤ n) }
 {
@@ -20,6 +21,7 @@ pub fn body_bytes(most: usize, n: usize) -> usize
 }
 
 // The bytes of the body that a prefix and the suffixes of both fences take, from their lengths.
+#[tactic(auto, unfolding(paper::specs::Space::fence_bytes))]
 pub fn fence_bytes(prefix: usize, lower: usize, upper: usize) -> usize
     requires { (prefix ≤ 65535) × (lower ≤ 65535) × (upper ≤ 65535) }
     ensures { (result ≡ fence_bytes prefix lower upper) × (result ≤ 196605) }
@@ -28,6 +30,7 @@ pub fn fence_bytes(prefix: usize, lower: usize, upper: usize) -> usize
 }
 
 // The space numbers: 1, 4, and 5 with 8 where effective exceeds used.
+#[tactic(auto, using(crate::proofs::Spaces::space_numbers), unfolding(paper::specs::Space::space_of))]
 pub fn space_numbers(p: &[u8]) -> Result<Space, Refusal>
     ensures { result ≡ space_read p.now }
 {
@@ -58,6 +61,7 @@ pub fn space_numbers(p: &[u8]) -> Result<Space, Refusal>
 }
 
 // What an entry takes, from its key and the page's prefix length: 2, 3, and 8 where the key is shorter than the prefix.
+#[tactic(auto, using(crate::proofs::Spaces::needs))]
 pub fn need(width: u8, prefix_len: usize, key: &[u8]) -> Result<u64, Refusal>
     ensures { result ≡ need_of width prefix_len key.now }
 {
@@ -75,6 +79,7 @@ pub fn need(width: u8, prefix_len: usize, key: &[u8]) -> Result<u64, Refusal>
 }
 
 // What a page takes that begins with two fences: 3; else their common prefix length, and 96 plus the body bytes.
+#[tactic(auto, using(crate::proofs::Spaces::forecasts))]
 pub fn forecast(lower: &[u8], upper: &[u8]) -> Result<Forecast, Refusal>
     ensures { result ≡ forecast_of lower.now upper.now }
 {

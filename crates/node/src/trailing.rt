@@ -11,6 +11,7 @@ use paper::refusal;
 use paper::refusal::Refusal;
 
 // The last eight bytes of a key whose suffix is shorter: the end of the prefix, then the suffix.
+#[tactic(auto, using(crate::proofs::Trails::acrosses))]
 fn across(p: &[u8], prefix_len: u16, s: Slot) -> u64
     requires { (16384 ≤ length p.now) × (prefix_len ≤ 16256) × (s.len ≤ 8) × (8 ≤ prefix_len + s.len) × (96 + s.offset + body_bytes 4 s.len ≤ length p.now) }
     ensures { result ≡ be 8 (prefix_of p.now prefix_len ++ suffix_of p.now s) (prefix_len + s.len - 8) }
@@ -24,6 +25,7 @@ fn across(p: &[u8], prefix_len: u16, s: Slot) -> u64
 }
 
 // The trailing id of entry `i`. Refuses 1, 2, 4, 10, 14, and 16 where its key is under 8 bytes.
+#[tactic(auto, using(crate::proofs::Trails::trailing), unfolding(paper::specs::Refusals::refusal_of))]
 pub fn trailing_id(p: &[u8], width: u8, i: usize) -> Result<u64, Refusal>
     ensures { result ≡ trailing_of width p.now i }
 {

@@ -1,12 +1,6 @@
 -- Places of two lists that hold alike: every number and every part that lies there reads alike. One law for each way of reading, and
 -- one for each side of a write, give all that a write leaves as it was. Assumes nothing.
-use mathlib.Core.Path.{◌≡◌, refl, sym, ◌∙◌}
-use mathlib.Core.List.{List}
-use Prim.Native.Nat.{ℕ, zero, suc, ◌+◌, ◌-◌, ◌≤◌, ◌<◌, min}
-use native.Mathlib.Nat.{add-zero, add-suc, suc-add}
-use native.Mathlib.Omega.{arith}
-use lib.ListN.{length, get_or}
-use lib.Seq.{ext_get_or}
+use Rattle.std.proofs.Common.{◌≡◌, refl, sym, ◌∙◌, List, ℕ, zero, suc, ◌+◌, ◌-◌, ◌≤◌, ◌<◌, min, add-zero, add-suc, suc-add, arith, length, get_or, ext_get_or}
 use Rattle.octets.specs.Bytes.{le, be, part, put}
 use Rattle.octets.proofs.Part.{length_part, part_at}
 use Rattle.octets.proofs.Put.{length-put, put_below, put-above, put-inside}

@@ -1,13 +1,9 @@
 -- Laws of big-endian numbers, `be`: how large a number is, that equal numbers have equal bytes, and the forms in which code reads four
 -- and eight bytes. Assumes nothing.
-use mathlib.Core.Path.{◌≡◌, refl, ap}
-use mathlib.Core.List.{List, [], ◌∷◌}
-use Prim.Native.Nat.{ℕ, zero, suc, ◌+◌, ◌*◌, ◌/◌, ◌%◌, ◌^◌, ◌≤◌, ◌<◌}
-use native.Mathlib.Nat.{pow-suc, mul-le-mul_right, suc-mul, add-zero, zero-add, suc-add, div-lt_iff_lt-mul, mod-lt, mul-add-div_right, div-eq_of_lt, mul-add-mod_self_right, mod-eq_of_lt}
+use Rattle.std.proofs.Common.{◌≡◌, refl, ap, List, [], ◌∷◌, ℕ, zero, suc, ◌+◌, ◌*◌, ◌/◌, ◌%◌, ◌^◌, ◌≤◌, ◌<◌, pow-suc, mul-le-mul_right, suc-mul, add-zero, zero-add, suc-add, div-lt_iff_lt-mul, mod-lt, mod-eq_of_lt, arith, length, get_or, take}
+use native.Mathlib.Nat.{mul-add-div_right, div-eq_of_lt, mul-add-mod_self_right}
 use native.Mathlib.Numerals.{towards_suc}
 use native.Mathlib.Decide.{dec_lt}
-use native.Mathlib.Omega.{arith}
-use lib.ListN.{length, get_or, take}
 use Rattle.octets.specs.Bytes.{IsBytes, be, big_bytes}
 use Rattle.octets.proofs.Alike.{Alike, be-alike}
 

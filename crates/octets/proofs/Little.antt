@@ -1,13 +1,8 @@
 -- Laws of little-endian numbers, `le`, and of a number's bytes, `bytes`: how large a number is, what its bytes are, that it reads back,
 -- and the forms in which code reads and writes two, four and eight bytes. Assumes nothing.
-use mathlib.Core.Path.{◌≡◌, refl, sym, ap, ◌∙◌}
-use mathlib.Core.List.{List, ◌∷◌, ◌++◌}
-use Prim.Native.Nat.{ℕ, zero, suc, ◌+◌, ◌*◌, ◌/◌, ◌%◌, ◌^◌, ◌≤◌, ◌<◌, min}
-use native.Mathlib.Nat.{pow-suc, div-lt_iff_lt-mul, add-zero, zero-add, suc-add, mul-add-mod_self_left}
+use Rattle.std.proofs.Common.{◌≡◌, refl, sym, ap, ◌∙◌, List, ◌∷◌, ◌++◌, ℕ, zero, suc, ◌+◌, ◌*◌, ◌/◌, ◌%◌, ◌^◌, ◌≤◌, ◌<◌, min, pow-suc, div-lt_iff_lt-mul, add-zero, zero-add, suc-add, arith, length, get_or, ext_get_or}
+use native.Mathlib.Nat.{mul-add-mod_self_left}
 use native.Mathlib.Numerals.{towards_suc}
-use native.Mathlib.Omega.{arith}
-use lib.ListN.{length, get_or}
-use lib.Seq.{ext_get_or}
 use Rattle.octets.specs.Bytes.{IsBytes, le, part, bytes, put}
 use Rattle.octets.proofs.Put.{put_back}
 use Rattle.octets.proofs.Alike.{Alike, le-alike, alike-inside}

@@ -1,14 +1,9 @@
 -- Numbers and runs as std's methods say them: `le` and `be` as what `from_le_bytes`, `from_be_bytes` and `swap_bytes` give of a part, the
 -- bytes of a number as those of `to_le_bytes`, and the `put` that `copy_from_slice` and `copy_within` leave. Assumes nothing.
-use mathlib.Core.Path.{◌≡◌, refl, sym, ap, ◌∙◌}
-use mathlib.Core.List.{List, append_assoc}
-use Prim.Native.Nat.{ℕ, zero, suc, ◌+◌, ◌/◌, ◌%◌, ◌^◌, ◌≤◌, ◌<◌}
-use native.Mathlib.Nat.{pow-suc, div-div-eq-div-mul, add-zero}
-use native.Mathlib.Omega.{arith}
+use Rattle.std.proofs.Common.{◌≡◌, refl, sym, ap, ◌∙◌, List, append_assoc, ℕ, zero, suc, ◌+◌, ◌/◌, ◌%◌, ◌^◌, ◌≤◌, ◌<◌, pow-suc, add-zero, arith, Fits, length, get_or, set, drop, drop-drop}
+use native.Mathlib.Nat.{div-div-eq-div-mul}
 use borrow.Rule.Slice.PartMut.{put_mid}
-use mir.Val.{Fits}
-use lib.ListN.{length, get_or, set, drop}
-use lib.Seq.{drop-drop, paste}
+use lib.Seq.{paste}
 use Rattle.std.specs.Int.{w8, w16, w32, w64, from_le_bytes, from_be_bytes, to_le_bytes, bytes_low_first, swap_bytes}
 use Rattle.octets.specs.Bytes.{le, be, part, bytes, put}
 use Rattle.octets.proofs.Alike.{le-part, be-part}

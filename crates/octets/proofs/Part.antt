@@ -1,10 +1,5 @@
 -- Laws of a part of a list: its length, its elements, its first one. Assumes nothing.
-use mathlib.Core.Path.{◌≡◌}
-use mathlib.Core.List.{List, [], ◌∷◌}
-use Prim.Native.Nat.{ℕ, suc, ◌+◌, ◌-◌, ◌≤◌, ◌<◌, min}
-use native.Mathlib.Omega.{arith}
-use lib.ListN.{length, get_or, drop, length-take, length-drop}
-use lib.Seq.{drop-cons, get_or-take, get_or-drop}
+use Rattle.std.proofs.Common.{◌≡◌, List, [], ◌∷◌, ℕ, suc, ◌+◌, ◌-◌, ◌≤◌, ◌<◌, min, arith, length, get_or, drop, length-take, length-drop, drop-cons, get_or-take, get_or-drop}
 use Rattle.octets.specs.Bytes.{part}
 
 pub length_part : (n : ℕ) (p : List ℕ) (o : ℕ) → length (part n p o) ≡ min n (length p - o)

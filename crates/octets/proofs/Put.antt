@@ -1,13 +1,8 @@
 -- Laws of `put`: lengths, what stands below, above and inside a run, runs side by side and on top of each other, and a run that was
 -- written through a lent part. None but those that look inside the run asks for a length. Assumes nothing.
-use mathlib.Core.Path.{◌≡◌, refl, ◌∙◌}
-use mathlib.Core.List.{List, [], ◌∷◌, ◌++◌, append-nil}
-use Prim.Native.Nat.{ℕ, zero, suc, ◌+◌, ◌-◌, ◌≤◌, ◌<◌}
-use native.Mathlib.Nat.{add-zero, add-suc, suc-add}
-use native.Mathlib.Omega.{arith}
+use Rattle.std.proofs.Common.{◌≡◌, refl, ◌∙◌, List, [], ◌∷◌, ◌++◌, append-nil, ℕ, zero, suc, ◌+◌, ◌-◌, ◌≤◌, ◌<◌, add-zero, add-suc, suc-add, arith, length, get_or, set, take, drop, length-set, length-drop, drop_of_length-le, take-append-drop, get_or-drop, get_or-set_same, get_or-set_other, set-set, drop-set-lt, take_all}
 use borrow.Rule.Slice.PartMut.{put_mid, mid_of}
-use lib.ListN.{length, get_or, set, take, drop, length-set, length-drop, drop_of_length-le, take-append-drop}
-use lib.Seq.{get_or-drop, sets, sets-eq, get_or-set_same, get_or-set_other, set_comm, set-set, set-get_or, drop-set-add, drop-set-lt, take-set-le, take-set-lt, take_all}
+use lib.Seq.{sets, sets-eq, set_comm, set-get_or, drop-set-add, take-set-le, take-set-lt}
 use Rattle.octets.specs.Bytes.{IsBytes, part, put}
 use Rattle.octets.proofs.Part.{part_none, part-cons}
 

@@ -1,14 +1,7 @@
 -- What one turn of each loop of this crate does to `put` and `le`, and what is left where the loop ends. Assumes nothing.
-use mathlib.Core.Path.{◌≡◌}
-use mathlib.Core.List.{List}
-use Prim.Native.Nat.{ℕ, suc, ◌+◌, ◌*◌, ◌-◌, ◌/◌, ◌%◌, ◌^◌, ◌≤◌, ◌<◌}
-use native.Mathlib.Nat.{add-zero, pow-le-pow_right, lt_of_lt_of_le}
-use native.Mathlib.Numerals.{add-one}
-use native.Mathlib.Omega.{arith}
+use Rattle.std.proofs.Common.{◌≡◌, List, ℕ, suc, ◌+◌, ◌*◌, ◌-◌, ◌/◌, ◌%◌, ◌^◌, ◌≤◌, ◌<◌, add-zero, lt_of_lt_of_le, add-one, arith, w8, Fits, length, get_or, set}
+use native.Mathlib.Nat.{pow-le-pow_right}
 use borrow.Rule.Slice.PartMut.{put_mid, mid_of}
-use mir.Syntax.{w8}
-use mir.Val.{Fits}
-use lib.ListN.{length, get_or, set}
 use Rattle.octets.specs.Bytes.{IsBytes, le, bytes, put}
 use Rattle.octets.proofs.Put.{put_mid-put}
 use Rattle.octets.proofs.Little.{le-lt, length-bytes}

@@ -17,7 +17,7 @@ pub fn byte(p: &[u8], at: usize) -> u64
 
 // The `N` bytes from `at` on, as an array.
 #[tactic(auto, unfolding(crate::specs::Bytes::part))]
-fn array<const N: usize>(p: &[u8], at: usize) -> [u8; N]
+pub fn array<const N: usize>(p: &[u8], at: usize) -> [u8; N]
     requires { at + N ≤ length p.now }
     ensures { result ≡ part N p.now at }
 {

@@ -1,13 +1,8 @@
 -- Records filed one after the other: each insert is accepted, what the next one needs still holds, and what the page then shows does not
 -- depend on the order. Assumes nothing.
-use mathlib.Core.Path.{◌≡◌, refl, sym, ap, ◌∙◌}
-use mathlib.Core.Bool.{Bool, true, false}
-use mathlib.Core.List.{List, [], ◌∷◌, ◌++◌, Permᴰ}
-use Prim.Native.Nat.{ℕ, zero, suc, ◌+◌, ◌*◌, ◌-◌, ◌≤◌}
-use native.Mathlib.Omega.{arith}
-use borrow.Author.Tests.{leb-false, lt-leb}
-use lib.Dec.{leb, eqb}
-use lib.ListN.{length, take, get_or}
+use Rattle.std.proofs.Common.{◌≡◌, refl, sym, ap, ◌∙◌, Bool, true, false, List, [], ◌∷◌, ◌++◌, ℕ, zero, suc, ◌+◌, ◌*◌, ◌-◌, ◌≤◌, arith, leb-false, leb, eqb, length, take, get_or}
+use mathlib.Core.List.{Permᴰ}
+use borrow.Author.Tests.{lt-leb}
 use Rattle.octets.specs.Bytes.{IsBytes}
 use Rattle.keys.specs.Choice.{both}
 use Rattle.paper.specs.Lists.{ins, all, pairs, sum, differ}

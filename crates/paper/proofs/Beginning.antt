@@ -1,16 +1,9 @@
 -- Begin on the page is begin on its view: the three runs lie side by side at the end of the body, the fields of the header read back since no
 -- later write meets them, and the inline prefix is written last. All other bytes keep their old content. Assumes nothing.
-use mathlib.Core.Path.{◌≡◌, refl, sym, ap, ◌∙◌}
-use mathlib.Core.Bool.{Bool, true, false}
-use mathlib.Core.List.{List, [], ◌++◌}
-use Prim.Native.Nat.{ℕ, ◌+◌, ◌-◌, ◌^◌, ◌≤◌, ◌<◌}
-use native.Mathlib.Nat.{zero-add}
+use Rattle.std.proofs.Common.{◌≡◌, refl, sym, ap, ◌∙◌, Bool, true, false, List, [], ◌++◌, ℕ, ◌+◌, ◌-◌, ◌^◌, ◌≤◌, ◌<◌, zero-add, arith, le-leb, leb, eqb, length, take, get_or, length-drop, take-append-drop, length-take-le, ext_get_or}
 use native.Mathlib.Decide.{dec_le, dec_lt}
-use native.Mathlib.Omega.{arith}
-use borrow.Author.Tests.{le-leb, lt-leb}
-use lib.Dec.{leb, eqb}
-use lib.ListN.{length, take, get_or, length-drop, take-append-drop}
-use lib.Seq.{length-take-le, take-length, ext_get_or}
+use borrow.Author.Tests.{lt-leb}
+use lib.Seq.{take-length}
 use Rattle.octets.specs.Bytes.{IsBytes, le, part, big_bytes, put}
 use Rattle.octets.proofs.Part.{length-part-le, part_at}
 use Rattle.octets.proofs.Put.{length-put, put_below, put-above, put-inside, put-bytes, take-bytes, drop-bytes}

@@ -1,15 +1,8 @@
 -- A page that was begun is fit at every width, its listing is empty, and its effective space is what the forecast says. The one rule that
 -- asks for thought is U5: an upper fence that is all prefix would be a prefix of the lower one, and so not above it. Assumes nothing.
-use mathlib.Core.Path.{◌≡◌, refl, sym, ap, ◌∙◌}
-use mathlib.Core.Bool.{Bool, true, false}
-use mathlib.Core.Logic.{inr, ⊎_elim}
-use mathlib.Core.List.{List, [], ◌++◌}
-use Prim.Native.Nat.{ℕ, ◌+◌, ◌≤◌, ◌<◌}
+use Rattle.std.proofs.Common.{◌≡◌, refl, sym, ap, ◌∙◌, Bool, true, false, inr, ⊎_elim, List, [], ◌++◌, ℕ, ◌+◌, ◌≤◌, ◌<◌, arith, eqb-true, leb-true, eq-eqb, ne_eqb, le-leb, leb, eqb, length, Ok, Err}
 use native.Mathlib.Decide.{dec_le}
-use native.Mathlib.Omega.{arith}
-use borrow.Author.Tests.{eqb-true, leb-true, eq-eqb, ne_eqb, le-leb, lt-leb}
-use lib.Dec.{leb, eqb}
-use lib.ListN.{length}
+use borrow.Author.Tests.{lt-leb}
 use Rattle.octets.specs.Bytes.{IsBytes}
 use Rattle.keys.specs.Choice.{pick}
 use Rattle.keys.specs.Keys.{head_of, common}
@@ -32,8 +25,6 @@ use Rattle.paper.proofs.Fit.{Lie, Rules, Fit, fit_back, apart_sym, apart_low, ap
 use Rattle.paper.proofs.Judging.{fit_passed}
 use Rattle.paper.proofs.Holding.{Hold, judge_hold}
 use Rattle.paper.proofs.Beginning.{Begins, Typed, length-beginPrefix, length-beginUpper, begin-lower, begin-upper, begin-bytes, begin-room, length-begun, begin-frame, begin_numbers, begin-hints, begin-kept, begin-footer, begin-square, begun-bytes}
-use Rattle.std.specs.Prelude.{Ok, Err}
-use Rattle.paper.specs.declared.answers.Forecast.{Forecast}
 use Rattle.std.specs.declared.cmp.Ordering.TheVariants.{Equal}
 
 -- ---- the pieces of two fences

@@ -1,14 +1,7 @@
 -- The bench page of document 01, computed whole: all zero, begun with empty fences, "parcel" and "a" filed. The listing program's text is the
 -- paper's, byte for byte, and demand 3 is applied to it, so its premises are not empty. Assumes nothing.
-use mathlib.Core.Path.{◌≡◌, refl}
-use mathlib.Core.Bool.{true, false}
-use mathlib.Core.List.{List, [], ◌∷◌}
+use Rattle.std.proofs.Common.{◌≡◌, refl, true, false, List, [], ◌∷◌, ℕ, zero, suc, ◌≤◌, arith, ltb-true, ltb, replicate, get_or, Ok}
 use mathlib.Core.List.Permᴰ
-use Prim.Native.Nat.{ℕ, zero, suc, ◌≤◌}
-use native.Mathlib.Omega.{arith}
-use borrow.Author.Tests.{ltb-true}
-use lib.Dec.{ltb}
-use lib.ListN.{replicate, get_or}
 use Rattle.octets.specs.Bytes.{IsBytes, le, be, part, bytes, big_bytes, put}
 use Rattle.keys.specs.Keys.{by_number, order, head_of, common, same_list}
 use Rattle.paper.specs.Lists.{every, tab, ins, all, pairs, sum, up_to, less, differ, below_first, rising}
@@ -28,7 +21,6 @@ use Rattle.paper.specs.Edits.{Begin}
 use Rattle.paper.specs.Demand.{Given, Demanded}
 use Rattle.paper.proofs.Lists.{both_parts}
 use Rattle.paper.proofs.Demand.{demand3}
-use Rattle.std.specs.Prelude.{Ok}
 
 -- "begun at height 0, timestamp 0, empty fences, lower fence value 0, hints off"
 abbrev fences : Begin

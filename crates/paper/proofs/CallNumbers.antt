@@ -1,10 +1,6 @@
 -- Each call tests in the order that document 01 lists: the numbers of its tests are the paper's list. (14 is given in the course of a search
 -- and is not in these lists; of two pages or two keys each has its own test.) Assumes nothing.
-use mathlib.Core.Path.{◌≡◌, refl, ap}
-use mathlib.Core.List.{List, [], ◌∷◌, ◌++◌, map}
-use Prim.Native.Nat.{ℕ, zero, suc}
-use lib.Dec.{leb}
-use lib.ListN.{length}
+use Rattle.std.proofs.Common.{◌≡◌, refl, ap, List, [], ◌∷◌, ◌++◌, map, ℕ, zero, suc, leb, length}
 use Rattle.paper.specs.Page.{numbers_of}
 use Rattle.paper.specs.Edits.{Begin}
 use Rattle.paper.specs.Refusals.{Check, check, number_of}

@@ -1,15 +1,8 @@
 -- A key changed on the page is the key changed on its view. The new payload lies below the end where it outgrows the old one, else within
 -- the old one: either way it meets no other piece, and lies above every slot. Numbers and hints follow as for an insert. Assumes nothing.
-use mathlib.Core.Path.{◌≡◌, refl, sym, ap, ◌∙◌}
-use mathlib.Core.Bool.{Bool, true, false}
-use mathlib.Core.Logic.{◌⊎◌, inl, inr, ⊎_elim}
-use mathlib.Core.List.{List}
-use Prim.Native.Nat.{ℕ, ◌+◌, ◌*◌, ◌-◌, ◌≤◌, ◌<◌}
+use Rattle.std.proofs.Common.{◌≡◌, refl, sym, ap, ◌∙◌, Bool, true, false, ◌⊎◌, inl, inr, ⊎_elim, List, ℕ, ◌+◌, ◌*◌, ◌-◌, ◌≤◌, ◌<◌, arith, leb-true, ltb-true, ltb-false, le-leb, le-ltb, leb, ltb, length, get_or}
 use native.Mathlib.Decide.{dec_le, dec_lt}
-use native.Mathlib.Omega.{arith}
-use borrow.Author.Tests.{leb-true, ltb-true, ltb-false, le-leb, lt-leb, le-ltb}
-use lib.Dec.{leb, ltb}
-use lib.ListN.{length, get_or}
+use borrow.Author.Tests.{lt-leb}
 use Rattle.octets.specs.Bytes.{IsBytes, le, put}
 use Rattle.octets.proofs.Put.{length-put, put_below, put-above, put-bytes}
 use Rattle.octets.proofs.Little.{le-lt}

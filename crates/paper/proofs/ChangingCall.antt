@@ -1,13 +1,7 @@
 -- The call that changes a key, where all its tests hold: it is done, the page after it is fit and lists the new key with the old value in
 -- its place and all else as it was. On a fit page the tests hold for the key that is there. Assumes nothing.
-use mathlib.Core.Path.{◌≡◌, ◌∙◌}
-use mathlib.Core.Bool.{Bool, true, false}
-use mathlib.Core.List.{List, [], ◌++◌}
-use Prim.Native.Nat.{ℕ, ◌-◌, ◌≤◌, ◌<◌}
-use native.Mathlib.Omega.{arith}
-use borrow.Author.Tests.{eqb-true, leb-true, ltb-true, eq-eqb, le-leb, lt-ltb}
-use lib.Dec.{leb, ltb, eqb}
-use lib.ListN.{length, get_or, length-append, get_or-map}
+use Rattle.std.proofs.Common.{◌≡◌, ◌∙◌, Bool, true, false, List, [], ◌++◌, ℕ, ◌-◌, ◌≤◌, ◌<◌, arith, eqb-true, leb-true, ltb-true, eq-eqb, le-leb, lt-ltb, leb, ltb, eqb, length, get_or, length-append, Ok, Err}
+use lib.ListN.{get_or-map}
 use lib.Seq.{drop-append_seam}
 use Rattle.octets.specs.Bytes.{IsBytes, le, part}
 use Rattle.octets.proofs.Put.{drop-bytes, append-bytes, part_bytes}
@@ -30,7 +24,6 @@ use Rattle.paper.proofs.Searching.{length_at, bytes-at, key-at, length-keys, ris
 use Rattle.paper.proofs.Holding.{Hold, judge_hold, done_holds}
 use Rattle.paper.proofs.Changing.{not-outgrown, length-changed, changed-bytes}
 use Rattle.paper.proofs.ChangingFit.{change-frame, change_numbers, change-hints, change-listing, change-fits}
-use Rattle.std.specs.Prelude.{Ok, Err}
 
 -- what the tests say
 pub record Changes (w : ℕ) (p : List ℕ) (i : ℕ) (k : List ℕ) : Type 0 where

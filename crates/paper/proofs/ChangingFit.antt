@@ -1,12 +1,7 @@
 -- A key that is changed leaves a fit page fit, rule by rule: a row in another's place, whose payload is clear of all other pieces and whose
 -- key stands between its neighbours. Effective follows the needs, and packing bounds it where the payload is new. Assumes nothing.
-use mathlib.Core.Path.{◌≡◌, refl, ap, ◌∙◌}
-use mathlib.Core.Bool.{Bool, true, false}
-use mathlib.Core.List.{List, ◌++◌, map}
-use Prim.Native.Nat.{ℕ, ◌+◌, ◌-◌, ◌≤◌, ◌<◌}
-use native.Mathlib.Omega.{arith}
-use borrow.Author.Tests.{eq-eqb}
-use lib.ListN.{length, get_or, length-map}
+use Rattle.std.proofs.Common.{◌≡◌, refl, ap, ◌∙◌, Bool, true, false, List, ◌++◌, map, ℕ, ◌+◌, ◌-◌, ◌≤◌, ◌<◌, arith, eq-eqb, length, get_or}
+use lib.ListN.{length-map}
 use Rattle.octets.specs.Bytes.{IsBytes, le}
 use Rattle.keys.specs.Choice.{both}
 use Rattle.keys.specs.Keys.{head_of}

@@ -1,13 +1,8 @@
 -- A run copy on the page is the run copy on its view: each entry goes in as the last slot as an insert without hints does, which leaves the
 -- page ready for the next one, and at the end all hints in use are refreshed. Assumes nothing.
-use mathlib.Core.Path.{◌≡◌, refl, sym, ap, ◌∙◌}
-use mathlib.Core.Bool.{true}
-use mathlib.Core.List.{List, [], ◌∷◌, ◌++◌}
-use Prim.Native.Nat.{ℕ, suc, ◌+◌, ◌*◌, ◌^◌, ◌≤◌, ◌<◌}
+use Rattle.std.proofs.Common.{◌≡◌, refl, sym, ap, ◌∙◌, true, List, [], ◌∷◌, ◌++◌, ℕ, suc, ◌+◌, ◌*◌, ◌^◌, ◌≤◌, ◌<◌, arith, ltb-true, length, get_or}
 use native.Mathlib.Decide.{dec_lt}
-use native.Mathlib.Omega.{arith}
-use borrow.Author.Tests.{ltb-true}
-use lib.ListN.{length, get_or, get_or-append}
+use lib.ListN.{get_or-append}
 use lib.Seq.{take-length, drop-length, get_or_at}
 use Rattle.octets.specs.Bytes.{IsBytes}
 use Rattle.octets.proofs.Put.{drop-bytes}

@@ -1,14 +1,6 @@
 -- Run copy, the call: what its tests say of destination and run, that the run's keys are bytes and its values fit since they were read, and so
 -- what the page holds afterwards. Assumes nothing.
-use mathlib.Core.Path.{◌≡◌, refl}
-use mathlib.Core.Bool.{Bool, true, false}
-use mathlib.Core.List.{List, [], ◌∷◌, ◌++◌, map, append-nil}
-use Prim.Native.Nat.{ℕ, zero, suc, ◌+◌, ◌*◌, ◌-◌, ◌^◌, ◌≤◌, ◌<◌}
-use native.Mathlib.Omega.{arith}
-use borrow.Author.Tests.{eqb-true, leb-true, lt-ltb, le-leb, eq-eqb, ne_eqb}
-use lib.Dec.{leb, eqb}
-use lib.ListN.{length, take, drop, get_or}
-use lib.Seq.{get_or-drop}
+use Rattle.std.proofs.Common.{◌≡◌, refl, Bool, true, false, List, [], ◌∷◌, ◌++◌, map, append-nil, ℕ, zero, suc, ◌+◌, ◌*◌, ◌-◌, ◌^◌, ◌≤◌, ◌<◌, arith, eqb-true, leb-true, lt-ltb, le-leb, eq-eqb, ne_eqb, leb, eqb, length, take, drop, get_or, get_or-drop, Ok, Err}
 use Rattle.octets.specs.Bytes.{IsBytes, le, part, big_bytes}
 use Rattle.octets.proofs.Put.{append-bytes, take-bytes, part_bytes}
 use Rattle.octets.proofs.Little.{le-lt}
@@ -34,7 +26,6 @@ use Rattle.paper.proofs.Filing.{keys-listing, frame-rules}
 use Rattle.paper.proofs.Searching.{rises}
 use Rattle.paper.proofs.Copying.{Appends, run_square, length_run, run-bytes}
 use Rattle.paper.proofs.CopyingFit.{Grown, Runs, run-view-fit, run-view_list, run_grown, run-hints}
-use Rattle.std.specs.Prelude.{Ok, Err}
 
 -- ---- a run on a fit page
 pub record Copies (w : ℕ) (p : List ℕ) (es : List Entry) : Type 0 where

@@ -1,12 +1,9 @@
 -- A run copy on views is inserts behind the last slot, one after the other: hints that were refreshed on the way are refreshed again or were
 -- never in use. So it leaves a fit page fit, as inserts do, lists the old listing and then the run, and of the header moves the four numbers
 -- alone. Assumes nothing.
-use mathlib.Core.Path.{◌≡◌, refl, sym, ap, ◌∙◌}
-use mathlib.Core.Bool.{Bool, true, false}
-use mathlib.Core.List.{List, [], ◌∷◌, ◌++◌, map, append_assoc, append-nil, map-append}
-use Prim.Native.Nat.{ℕ, suc, ◌+◌, ◌*◌, ◌-◌, ◌≤◌}
-use native.Mathlib.Omega.{arith}
-use lib.ListN.{length, take, length-map, take-append-drop}
+use Rattle.std.proofs.Common.{◌≡◌, refl, sym, ap, ◌∙◌, Bool, true, false, List, [], ◌∷◌, ◌++◌, map, append_assoc, append-nil, ℕ, suc, ◌+◌, ◌*◌, ◌-◌, ◌≤◌, arith, length, take, take-append-drop}
+use mathlib.Core.List.{map-append}
+use lib.ListN.{length-map}
 use Rattle.keys.specs.Choice.{pick, both}
 use Rattle.keys.specs.Keys.{order}
 use Rattle.keys.proofs.Orders.{same_list_eq}

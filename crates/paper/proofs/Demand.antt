@@ -1,14 +1,7 @@
 -- Demand 3. Filing in any order is `filed`, its independence of the order `listing-alike` and `header-alike`, and on the fit page that it
 -- leaves every search is a scan. Assumes nothing.
-use mathlib.Core.Path.{◌≡◌, refl, ap}
-use mathlib.Core.Bool.{Bool, true}
-use mathlib.Core.List.{List, [], ◌∷◌}
-use Prim.Native.Nat.{ℕ, ◌<◌}
+use Rattle.std.proofs.Common.{◌≡◌, refl, ap, Bool, true, List, [], ◌∷◌, ℕ, ◌<◌, arith, lt-ltb, le-ltb, leb, ltb, length, get_or, ℤ, Result, Ok, Err}
 use native.Mathlib.Decide.{dec_lt}
-use native.Mathlib.Omega.{arith}
-use borrow.Author.Tests.{lt-ltb, le-ltb}
-use lib.Dec.{leb, ltb}
-use lib.ListN.{length, get_or}
 use Rattle.octets.specs.Bytes.{IsBytes}
 use Rattle.keys.specs.Choice.{pick}
 use Rattle.keys.specs.Keys.{order}
@@ -26,7 +19,6 @@ use Rattle.paper.proofs.Filing.{length-listing, frame-rules}
 use Rattle.paper.proofs.Perms.{file_all-holds}
 use Rattle.paper.proofs.Searching.{slot-order, key-at, rises, bound-scan, find-scan}
 use Rattle.paper.proofs.AnyOrder.{Files, filed, files_perm, listing-alike, header-alike}
-use Rattle.std.specs.Prelude.{ℤ, Result, Ok, Err}
 use Rattle.paper.specs.declared.refusal.Refusal.{Refusal}
 
 -- ---- searches of a fit page q that has the frame of p

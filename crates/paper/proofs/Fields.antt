@@ -1,14 +1,8 @@
 -- A list of fields written one after the other: what no field meets stays, and each field that no later one meets reads back. Both are
 -- tests that compute, so a use says `refl`. Assumes nothing.
-use mathlib.Core.Path.{◌≡◌, refl, ◌∙◌}
-use mathlib.Core.Bool.{Bool, true, false}
-use mathlib.Core.List.{List, [], ◌∷◌}
-use Prim.Native.Nat.{ℕ, zero, suc, ◌+◌, ◌^◌, ◌≤◌, ◌<◌}
+use Rattle.std.proofs.Common.{◌≡◌, refl, ◌∙◌, Bool, true, false, List, [], ◌∷◌, ℕ, zero, suc, ◌+◌, ◌^◌, ◌≤◌, ◌<◌, arith, le-leb, leb, length, get_or}
 use native.Mathlib.Decide.{dec_le}
-use native.Mathlib.Omega.{arith}
-use borrow.Author.Tests.{le-leb, lt-leb}
-use lib.Dec.{leb}
-use lib.ListN.{length, get_or}
+use borrow.Author.Tests.{lt-leb}
 use Rattle.octets.specs.Bytes.{IsBytes, le, bytes, put}
 use Rattle.octets.proofs.Put.{length-put, put_below, put-above, put-bytes}
 use Rattle.octets.proofs.Little.{length-bytes, le-put_same, bytes-bytes}

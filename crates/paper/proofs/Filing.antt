@@ -1,14 +1,9 @@
 -- One record on a fit page: it has the page's prefix since it lies between the fences, the insert is accepted, the page is fit again, its
 -- listing is the old one with the record in its place, and nothing else of the header moves. Assumes nothing.
-use mathlib.Core.Path.{◌≡◌, refl, sym, ap, ◌∙◌}
-use mathlib.Core.Bool.{Bool, true, false, not}
-use mathlib.Core.List.{List, [], ◌∷◌, ◌++◌, map}
-use Prim.Native.Nat.{ℕ, ◌+◌, ◌-◌, ◌^◌, ◌≤◌}
+use Rattle.std.proofs.Common.{◌≡◌, refl, sym, ap, ◌∙◌, Bool, true, false, not, List, [], ◌∷◌, ◌++◌, map, ℕ, ◌+◌, ◌-◌, ◌^◌, ◌≤◌, arith, eqb-true, ltb-true, eq-eqb, le-leb, leb, length, take, length-append, take-append-drop, Ok, Err}
 use native.Mathlib.Decide.{dec_le}
-use native.Mathlib.Omega.{arith}
-use borrow.Author.Tests.{not-true, eqb-true, ltb-true, eq-eqb, le-leb, lt-leb}
-use lib.Dec.{leb}
-use lib.ListN.{length, take, length-map, length-append, take-append-drop}
+use borrow.Author.Tests.{not-true, lt-leb}
+use lib.ListN.{length-map}
 use Rattle.octets.specs.Bytes.{IsBytes, le, part}
 use Rattle.octets.proofs.Part.{length-part-le}
 use Rattle.octets.proofs.Put.{drop-bytes}
@@ -31,7 +26,6 @@ use Rattle.paper.proofs.Same.{le-body_bytes}
 use Rattle.paper.proofs.Fit.{Rules, Fit, fit_back, length-rows, placed}
 use Rattle.paper.proofs.Inserting.{Room, insert-square, length_inserted, inserted-bytes}
 use Rattle.paper.proofs.InsertFit.{Goes, insert-fit}
-use Rattle.std.specs.Prelude.{Ok, Err}
 
 -- ---- a page and its listing
 pub keys-listing : (w : ℕ) (p : List ℕ) → keys (listing w p) ≡ keys_of (view_of w p)

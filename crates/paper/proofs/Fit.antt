@@ -1,13 +1,8 @@
 -- The fit verdict as a record of facts, both ways; what disjoint pieces say of the space; and what lies where on a fit page. Assumes nothing.
-use mathlib.Core.Path.{◌≡◌, refl, ap, ◌∙◌}
-use mathlib.Core.Bool.{Bool, true, false}
-use mathlib.Core.List.{List, [], ◌∷◌, ◌++◌, map}
-use Prim.Native.Nat.{ℕ, suc, ◌+◌, ◌*◌, ◌-◌, ◌≤◌, ◌<◌, min, max}
+use Rattle.std.proofs.Common.{◌≡◌, refl, ap, ◌∙◌, Bool, true, false, List, [], ◌∷◌, ◌++◌, map, ℕ, suc, ◌+◌, ◌*◌, ◌-◌, ◌≤◌, ◌<◌, min, max, arith, eqb-true, leb-true, eq-eqb, le-leb, leb, eqb, length, get_or}
 use native.Mathlib.Decide.{dec_le, dec_lt}
-use native.Mathlib.Omega.{arith}
-use borrow.Author.Tests.{eqb-true, leb-true, eq-eqb, le-leb, lt-leb}
-use lib.Dec.{leb, eqb}
-use lib.ListN.{length, get_or, length-map, get_or-map}
+use borrow.Author.Tests.{lt-leb}
+use lib.ListN.{length-map, get_or-map}
 use Rattle.keys.specs.Choice.{pick}
 use Rattle.paper.specs.Lists.{every, tab, all, pairs, sum}
 use Rattle.paper.specs.Page.{slot_of, Row, row_of, Frame, frame_of, Numbers, numbers_of, View, view_of}

@@ -1,13 +1,7 @@
 -- The 96 header bytes are what frame, numbers and hints say, and hints in use are what the listing says: so pages that agree in these have
 -- the same header. Assumes nothing.
-use mathlib.Core.Path.{◌≡◌, refl, sym, ap, ◌∙◌}
-use mathlib.Core.Bool.{true}
-use mathlib.Core.List.{List, [], ◌∷◌, map}
-use Prim.Native.Nat.{ℕ, zero, suc, ◌+◌, ◌*◌, ◌-◌, ◌≤◌, ◌<◌, min}
-use native.Mathlib.Omega.{arith}
-use borrow.Author.Tests.{eqb-true}
-use lib.ListN.{length, take, drop, get_or, length-take}
-use lib.Seq.{ext_get_or, get_or-take, drop-append_seam}
+use Rattle.std.proofs.Common.{◌≡◌, refl, sym, ap, ◌∙◌, true, List, [], ◌∷◌, map, ℕ, zero, suc, ◌+◌, ◌*◌, ◌-◌, ◌≤◌, ◌<◌, min, arith, eqb-true, length, take, drop, get_or, length-take, ext_get_or, get_or-take}
+use lib.Seq.{drop-append_seam}
 use Rattle.octets.specs.Bytes.{IsBytes, le, part}
 use Rattle.octets.proofs.Part.{part_at}
 use Rattle.octets.proofs.Little.{le_same}

@@ -1,15 +1,11 @@
 -- A call whose tests all hold: the answer is given, and an answer that is no refusal says that they held. Assumes nothing.
-use mathlib.Core.Path.{◌≡◌, refl, sym, ap, ◌∙◌}
-use mathlib.Core.Bool.{Bool, true, false}
-use mathlib.Core.List.{List, [], ◌∷◌, ◌++◌}
-use Prim.Native.Nat.{ℕ}
-use native.Mathlib.Omega.{arith}
+use Rattle.std.proofs.Common.{◌≡◌, refl, sym, ap, ◌∙◌, Bool, true, false, List, [], ◌∷◌, ◌++◌, ℕ, arith, Result, Ok, Err, IsErrAnd}
+use Rattle.std.specs.Prelude.{⊤}
 use Rattle.keys.specs.Choice.{pick, both}
 use Rattle.paper.specs.Lists.{all}
 use Rattle.paper.specs.Refusals.{Check, judge}
 use Rattle.paper.specs.declared.refusal.Refusal.{Refusal}
 use Rattle.paper.proofs.Lists.{both_parts}
-use Rattle.std.specs.Prelude.{Result, Ok, Err, ⊤, IsErrAnd}
 use Rattle.std.proofs.lemmas.Result.{err_from_is_err_and}
 
 -- all tests hold

@@ -1,12 +1,6 @@
 -- An insert on the page is the insert on its view: the payload lands below the end, the slot before the later ones, numbers and hints
 -- follow. The same without the hints is what a run copy appends. Assumes nothing.
-use mathlib.Core.Path.{◌≡◌, refl, sym, ap, ◌∙◌}
-use mathlib.Core.Logic.{◌⊎◌, inl, inr}
-use mathlib.Core.List.{List}
-use Prim.Native.Nat.{ℕ, suc, ◌+◌, ◌*◌, ◌^◌, ◌≤◌, ◌<◌}
-use native.Mathlib.Numerals.{add-one}
-use native.Mathlib.Omega.{arith}
-use lib.ListN.{length, get_or}
+use Rattle.std.proofs.Common.{◌≡◌, refl, sym, ap, ◌∙◌, ◌⊎◌, inl, inr, List, ℕ, suc, ◌+◌, ◌*◌, ◌^◌, ◌≤◌, ◌<◌, add-one, arith, length, get_or}
 use Rattle.octets.specs.Bytes.{IsBytes, put}
 use Rattle.octets.proofs.Put.{length-put, put_below, put-above, put-bytes}
 use Rattle.paper.specs.Lists.{ins}

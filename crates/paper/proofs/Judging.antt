@@ -1,18 +1,10 @@
 -- What a fit verdict of 0 says, and what gives it. Assumes nothing.
-use mathlib.Core.Path.{◌≡◌, refl}
-use mathlib.Core.Bool.{Bool, true, false}
-use mathlib.Core.List.{List}
-use Prim.Native.Nat.{ℕ}
-use native.Mathlib.Omega.{arith}
-use borrow.Author.Tests.{eqb-true, eq-eqb}
-use lib.Dec.{eqb}
-use lib.ListN.{length}
+use Rattle.std.proofs.Common.{◌≡◌, refl, Bool, true, false, List, ℕ, arith, eqb-true, eq-eqb, eqb, length, Ok, Err}
 use Rattle.keys.specs.Choice.{pick}
 use Rattle.paper.specs.Verdicts.{fit_of}
 use Rattle.paper.specs.Refusals.{judge}
 use Rattle.paper.specs.Calls.{is_width, fit_verdict}
 use Rattle.paper.specs.declared.refusal.Refusal.TheVariants.{PageLength, Width}
-use Rattle.std.specs.Prelude.{Ok, Err}
 
 pub size_test : (p : List ℕ) → length p ≡ 16384 → eqb (length p) 16384 ≡ true
 size_test p e = eq-eqb (length p) 16384 e

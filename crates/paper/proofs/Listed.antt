@@ -1,11 +1,7 @@
 -- What a listing shows at a place, and where a key that is there stands: the scan for it passes exactly the smaller keys, and among rising
 -- keys a larger one would differ from all the rest. Assumes nothing.
-use mathlib.Core.Path.{◌≡◌, refl, ap, ◌∙◌}
-use mathlib.Core.Bool.{true, false}
-use mathlib.Core.List.{List, [], ◌∷◌, ◌++◌, map}
-use Prim.Native.Nat.{ℕ, suc, ◌<◌}
-use native.Mathlib.Omega.{arith}
-use lib.ListN.{length, get_or, length-map, get_or-map}
+use Rattle.std.proofs.Common.{◌≡◌, refl, ap, ◌∙◌, true, false, List, [], ◌∷◌, ◌++◌, map, ℕ, suc, ◌<◌, arith, length, get_or}
+use lib.ListN.{length-map, get_or-map}
 use Rattle.octets.specs.Bytes.{le}
 use Rattle.keys.specs.Choice.{pick, both}
 use Rattle.keys.specs.Keys.{order}

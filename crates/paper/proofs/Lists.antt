@@ -1,11 +1,6 @@
 -- Laws of tests over lists: what an element put in, or put in another's place, does to each of them. They are equations of tests, so they
 -- ask nothing of the place. Assumes nothing.
-use mathlib.Core.Path.{◌≡◌, refl, ap}
-use mathlib.Core.Bool.{Bool, true, false}
-use mathlib.Core.List.{List, [], ◌∷◌, ◌++◌, map}
-use Prim.Native.Nat.{ℕ, zero, suc, ◌+◌, ◌≤◌, ◌<◌}
-use native.Mathlib.Omega.{arith}
-use lib.ListN.{length, take, drop, get_or}
+use Rattle.std.proofs.Common.{◌≡◌, refl, ap, Bool, true, false, List, [], ◌∷◌, ◌++◌, map, ℕ, zero, suc, ◌+◌, ◌≤◌, ◌<◌, arith, length, take, drop, get_or}
 use Rattle.keys.specs.Choice.{both}
 use Rattle.paper.specs.Lists.{tab, ins, swap, all, pairs, sum}
 

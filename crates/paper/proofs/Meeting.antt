@@ -1,14 +1,6 @@
 -- A slot that is faithful to its suffix meets a probe in byte order, and a probe outside the prefix stands to every key as it stands to the
 -- prefix. Assumes nothing.
-use mathlib.Core.Path.{◌≡◌, refl, sym, ◌∙◌}
-use mathlib.Core.Bool.{Bool, true, false}
-use mathlib.Core.Logic.{⊎_elim}
-use mathlib.Core.List.{List, [], ◌∷◌, ◌++◌}
-use Prim.Native.Nat.{ℕ, ◌+◌, ◌<◌, min}
-use native.Mathlib.Omega.{arith}
-use borrow.Author.Tests.{leb-false}
-use lib.Dec.{leb}
-use lib.ListN.{length, take, drop}
+use Rattle.std.proofs.Common.{◌≡◌, refl, sym, ◌∙◌, Bool, true, false, ⊎_elim, List, [], ◌∷◌, ◌++◌, ℕ, ◌+◌, ◌<◌, min, arith, leb-false, leb, length, take, drop}
 use Rattle.octets.specs.Bytes.{IsBytes, part}
 use Rattle.keys.specs.Choice.{pick}
 use Rattle.keys.specs.Keys.{by_number, order, head_of, meets}

@@ -1,13 +1,8 @@
 -- Packing: pieces that share no byte are together no longer than the room they lie in, since each byte of the room is in at most one of
 -- them. Assumes nothing.
-use mathlib.Core.Path.{◌≡◌, refl}
-use mathlib.Core.Bool.{true}
-use mathlib.Core.List.{List, [], ◌∷◌}
-use Prim.Native.Nat.{ℕ, zero, suc, ◌+◌, ◌-◌, ◌≤◌, ◌<◌, min, max}
+use Rattle.std.proofs.Common.{◌≡◌, refl, true, List, [], ◌∷◌, ℕ, zero, suc, ◌+◌, ◌-◌, ◌≤◌, ◌<◌, min, max, arith, le-leb, lt-ltb, le-ltb, leb-true, leb, ltb}
 use native.Mathlib.Decide.{dec_le, dec_lt}
-use native.Mathlib.Omega.{arith}
-use borrow.Author.Tests.{le-leb, lt-leb, lt-ltb, le-ltb, leb-true}
-use lib.Dec.{leb, ltb}
+use borrow.Author.Tests.{lt-leb}
 use Rattle.keys.specs.Choice.{pick}
 use Rattle.paper.specs.Lists.{all, pairs, sum}
 use Rattle.paper.specs.Verdicts.{Piece, apart}

@@ -1,13 +1,8 @@
 -- A suffix and its value written into the body read back as the row that they make. Assumes nothing.
-use mathlib.Core.Path.{◌≡◌, refl, sym, ap, ◌∙◌}
-use mathlib.Core.List.{List}
-use Prim.Native.Nat.{ℕ, ◌+◌, ◌^◌, ◌≤◌, ◌<◌}
+use Rattle.std.proofs.Common.{◌≡◌, refl, sym, ap, ◌∙◌, List, ℕ, ◌+◌, ◌^◌, ◌≤◌, ◌<◌, arith, le-leb, leb, length, take, length-append, length-take-le}
 use native.Mathlib.Decide.{dec_le}
-use native.Mathlib.Omega.{arith}
-use borrow.Author.Tests.{le-leb, lt-leb}
-use lib.Dec.{leb}
-use lib.ListN.{length, take, length-append}
-use lib.Seq.{length-take-le, take-length}
+use borrow.Author.Tests.{lt-leb}
+use lib.Seq.{take-length}
 use Rattle.octets.specs.Bytes.{IsBytes, le, part, big_bytes, bytes, put}
 use Rattle.octets.proofs.Put.{length-put, put-append, append-bytes, take-bytes}
 use Rattle.octets.proofs.Alike.{part-put-below, part-put_same}

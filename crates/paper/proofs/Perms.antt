@@ -1,11 +1,7 @@
 -- What does not depend on the order of records: tests and sums over them, and the listing that filing them makes. Assumes nothing.
-use mathlib.Core.Path.{◌≡◌, refl, sym, ap, ◌∙◌}
-use mathlib.Core.Bool.{Bool, true, false}
+use Rattle.std.proofs.Common.{◌≡◌, refl, sym, ap, ◌∙◌, Bool, true, false, List, [], ◌∷◌, ◌++◌, ℕ, suc, ◌+◌, arith, length}
 use mathlib.Core.List.Permᴰ
-use mathlib.Core.List.{List, [], ◌∷◌, ◌++◌, Permᴰ}
-use Prim.Native.Nat.{ℕ, suc, ◌+◌}
-use native.Mathlib.Omega.{arith}
-use lib.ListN.{length}
+use mathlib.Core.List.{Permᴰ}
 use Rattle.keys.specs.Choice.{pick, both}
 use Rattle.paper.specs.Lists.{all, pairs, sum, less, differ}
 use Rattle.paper.specs.Listing.{Entry, file, file_all}

@@ -1,12 +1,7 @@
 -- Two pages whose bytes from a up to b are the same: every number, part, slot, suffix and row that lies there is the same. Assumes nothing.
-use mathlib.Core.Path.{◌≡◌}
-use mathlib.Core.List.{List}
-use Prim.Native.Nat.{ℕ, ◌+◌, ◌*◌, ◌≤◌, ◌<◌}
+use Rattle.std.proofs.Common.{◌≡◌, List, ℕ, ◌+◌, ◌*◌, ◌≤◌, ◌<◌, arith, le-leb, leb, length, get_or, take}
 use native.Mathlib.Decide.{dec_le, dec_lt}
-use native.Mathlib.Omega.{arith}
-use borrow.Author.Tests.{le-leb, lt-leb}
-use lib.Dec.{leb}
-use lib.ListN.{length, get_or, take}
+use borrow.Author.Tests.{lt-leb}
 use Rattle.octets.specs.Bytes.{le, part, big_bytes}
 use Rattle.octets.proofs.Alike.{le-alike, part-alike}
 use Rattle.keys.specs.Choice.{pick}

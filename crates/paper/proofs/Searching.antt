@@ -1,16 +1,9 @@
 -- On a fit page every search is a scan of the listing: a visited slot stands to a probe as its key does, fresh hints hold the answer in
 -- their window, and halving finds it there. Assumes nothing.
-use mathlib.Core.Path.{◌≡◌, refl, sym, ap, ◌∙◌}
-use mathlib.Core.Bool.{Bool, true, false}
-use mathlib.Core.List.{List, [], ◌∷◌, ◌++◌, map}
-use Prim.Native.Nat.{ℕ, zero, suc, ◌+◌, ◌*◌, ◌^◌, ◌≤◌, ◌<◌}
-use native.Mathlib.Numerals.{add-one}
+use Rattle.std.proofs.Common.{◌≡◌, refl, sym, ap, ◌∙◌, Bool, true, false, List, [], ◌∷◌, ◌++◌, map, ℕ, zero, suc, ◌+◌, ◌*◌, ◌^◌, ◌≤◌, ◌<◌, add-one, arith, eqb-true, leb-true, leb-false, ltb-true, le-leb, lt-ltb, le-ltb, eq-eqb, ne_eqb, leb, ltb, eqb, length, take, drop, get_or, length-take-le, Result, Ok}
 use native.Mathlib.Decide.{dec_le, dec_lt}
-use native.Mathlib.Omega.{arith}
-use borrow.Author.Tests.{eqb-true, leb-true, leb-false, ltb-true, le-leb, lt-leb, lt-ltb, le-ltb, eq-eqb, ne_eqb}
-use lib.Dec.{leb, ltb, eqb}
-use lib.ListN.{length, take, drop, get_or, length-map, get_or-map}
-use lib.Seq.{length-take-le}
+use borrow.Author.Tests.{lt-leb}
+use lib.ListN.{length-map, get_or-map}
 use Rattle.octets.specs.Bytes.{IsBytes, part, big_bytes}
 use Rattle.octets.proofs.Part.{length-part-le}
 use Rattle.octets.proofs.Put.{take-bytes, drop-bytes, part_bytes}
@@ -36,7 +29,6 @@ use Rattle.paper.proofs.Filing.{keys-listing, length-listing, prefix-length}
 use Rattle.paper.proofs.HeaderBytes.{entries-faithful, hints-fresh}
 use Rattle.paper.proofs.Halving.{halving_to, up_to_before, up_to_after, passed_below, passed-above, passed_falls, first_hint-le, first_hint-before, first_hint-here}
 use Rattle.paper.proofs.Meeting.{slot-meets, by_class_lem}
-use Rattle.std.specs.Prelude.{Result, Ok}
 use Rattle.std.specs.declared.cmp.Ordering.{Ordering}
 use Rattle.std.specs.declared.cmp.Ordering.TheVariants.{Less, Equal, Greater}
 use Rattle.paper.specs.declared.refusal.Refusal.{Refusal}

@@ -1,11 +1,6 @@
 -- A value set on the page is the value set on its view: its bytes lie within the payload of its slot and above every slot, so header, slots,
 -- frame, other rows and the slot's own suffix stay. Assumes nothing.
-use mathlib.Core.Path.{◌≡◌, sym, ap, ◌∙◌}
-use mathlib.Core.Logic.{⊎_elim}
-use mathlib.Core.List.{List}
-use Prim.Native.Nat.{ℕ, ◌+◌, ◌^◌, ◌≤◌, ◌<◌}
-use native.Mathlib.Omega.{arith}
-use lib.ListN.{length, get_or, take}
+use Rattle.std.proofs.Common.{◌≡◌, sym, ap, ◌∙◌, ⊎_elim, List, ℕ, ◌+◌, ◌^◌, ◌≤◌, ◌<◌, arith, length, get_or, take}
 use Rattle.octets.specs.Bytes.{IsBytes, le, part, bytes, put}
 use Rattle.octets.proofs.Put.{length-put, put_below, put-above, put-bytes}
 use Rattle.octets.proofs.Little.{length-bytes, bytes-bytes, le-put_same}

@@ -1,13 +1,7 @@
 -- The call that sets a value, where all its tests hold: the key stands where the scan for it stops, the answer is the value that the listing
 -- shows there, and the page after it is fit and lists the new value under that key and all else as it was. Assumes nothing.
-use mathlib.Core.Path.{◌≡◌, sym, ap, ◌∙◌}
-use mathlib.Core.Bool.{true, false, not}
-use mathlib.Core.List.{List, []}
-use Prim.Native.Nat.{ℕ, ◌^◌, ◌<◌}
-use native.Mathlib.Omega.{arith}
-use borrow.Author.Tests.{not-true, eqb-true, ltb-true}
-use lib.Dec.{leb, ltb, eqb}
-use lib.ListN.{length, get_or, take}
+use Rattle.std.proofs.Common.{◌≡◌, sym, ap, ◌∙◌, true, false, not, List, [], ℕ, ◌^◌, ◌<◌, eqb-true, ltb-true, leb, ltb, eqb, length, get_or, take, Ok, Err}
+use borrow.Author.Tests.{not-true}
 use Rattle.octets.specs.Bytes.{IsBytes}
 use Rattle.keys.specs.Choice.{both}
 use Rattle.paper.specs.Lists.{swap, all, differ}
@@ -27,7 +21,6 @@ use Rattle.paper.proofs.Listed.{listed, present_at}
 use Rattle.paper.proofs.Holding.{Hold, judge_hold, answer_holds}
 use Rattle.paper.proofs.Setting.{length-set, set-bytes, set-frame, set-header}
 use Rattle.paper.proofs.SettingFit.{set-fits, set-listing, set-keys-listing}
-use Rattle.std.specs.Prelude.{Ok, Err}
 
 -- what the tests say
 pub record Sets (w : ℕ) (p k : List ℕ) (expected new : ℕ) : Type 0 where

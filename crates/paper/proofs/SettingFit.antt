@@ -1,12 +1,6 @@
 -- A value that is set leaves a fit page fit, since no rule looks at values; and the listing is the old one with the new value in its place.
 -- Assumes nothing.
-use mathlib.Core.Path.{◌≡◌, refl, sym, ap, ◌∙◌}
-use mathlib.Core.Bool.{true}
-use mathlib.Core.List.{List, [], ◌∷◌, ◌++◌, map}
-use Prim.Native.Nat.{ℕ, zero, suc, ◌+◌, ◌*◌, ◌^◌, ◌<◌}
-use native.Mathlib.Omega.{arith}
-use borrow.Author.Tests.{eq-eqb}
-use lib.ListN.{length, get_or}
+use Rattle.std.proofs.Common.{◌≡◌, refl, sym, ap, ◌∙◌, true, List, [], ◌∷◌, ◌++◌, map, ℕ, zero, suc, ◌+◌, ◌*◌, ◌^◌, ◌<◌, arith, eq-eqb, length, get_or}
 use Rattle.octets.specs.Bytes.{IsBytes}
 use Rattle.keys.specs.Choice.{both}
 use Rattle.paper.specs.Lists.{swap, all, sum}

@@ -1,11 +1,5 @@
 -- Slots written and moved: a slot reads back where it was put, and a slot put in moves the later ones up one. Assumes nothing.
-use mathlib.Core.Path.{◌≡◌, ◌∙◌}
-use mathlib.Core.Logic.{◌⊎◌, inl, ⊎_elim}
-use mathlib.Core.List.{List, ◌++◌}
-use Prim.Native.Nat.{ℕ, suc, ◌+◌, ◌-◌, ◌^◌, ◌≤◌, ◌<◌}
-use native.Mathlib.Nat.{add-zero}
-use native.Mathlib.Omega.{arith}
-use lib.ListN.{length, get_or, length-append}
+use Rattle.std.proofs.Common.{◌≡◌, ◌∙◌, ◌⊎◌, inl, ⊎_elim, List, ◌++◌, ℕ, suc, ◌+◌, ◌-◌, ◌^◌, ◌≤◌, ◌<◌, add-zero, arith, length, get_or, length-append}
 use Rattle.octets.specs.Bytes.{IsBytes, le, part, bytes, put}
 use Rattle.octets.proofs.Part.{length-part-le}
 use Rattle.octets.proofs.Put.{length-put, put_below, put-above, put-append, put-bytes, append-bytes, part_bytes}

@@ -1,16 +1,9 @@
 -- What every edit ends with: its four numbers written, and the hints in use refreshed. Neither touches the body, so the page then reads as
 -- it did, but for those numbers and hints. Assumes nothing.
-use mathlib.Core.Path.{◌≡◌, refl, sym, ap, ◌∙◌}
-use mathlib.Core.Bool.{Bool, true, false}
-use mathlib.Core.Logic.{◌⊎◌, inl, inr, ⊎_elim}
-use mathlib.Core.List.{List, [], ◌∷◌, ◌++◌}
-use Prim.Native.Nat.{ℕ, zero, suc, ◌+◌, ◌*◌, ◌-◌, ◌/◌, ◌^◌, ◌≤◌, ◌<◌}
-use native.Mathlib.Nat.{mul-le-mul_right}
+use Rattle.std.proofs.Common.{◌≡◌, refl, sym, ap, ◌∙◌, Bool, true, false, ◌⊎◌, inl, inr, ⊎_elim, List, [], ◌∷◌, ◌++◌, ℕ, zero, suc, ◌+◌, ◌*◌, ◌-◌, ◌/◌, ◌^◌, ◌≤◌, ◌<◌, mul-le-mul_right, arith, le-leb, leb-true, leb, eqb, length, get_or, length-append}
 use native.Mathlib.Decide.{dec_le, dec_lt}
-use native.Mathlib.Omega.{arith}
-use borrow.Author.Tests.{le-leb, lt-leb, leb-true}
-use lib.Dec.{leb, eqb}
-use lib.ListN.{length, get_or, length-append, get_or-eq_default}
+use borrow.Author.Tests.{lt-leb}
+use lib.ListN.{get_or-eq_default}
 use Rattle.octets.specs.Bytes.{IsBytes, le, part, bytes, put}
 use Rattle.octets.proofs.Put.{length-put, put_below, put-above, put-append, put-bytes, append-bytes}
 use Rattle.octets.proofs.Alike.{le-put-below}

@@ -1,15 +1,8 @@
 -- An element in another's place: the list is what is left without that element, with the new one put in. So the laws of an element put in
 -- give those of a swap, and what is known of the element taken out is known against all that is left. Assumes nothing.
-use mathlib.Core.Path.{◌≡◌, refl, sym, ap, ◌∙◌}
-use mathlib.Core.Bool.{Bool, true}
-use mathlib.Core.List.{List, [], ◌∷◌, ◌++◌, map}
-use Prim.Native.Nat.{ℕ, zero, suc, ◌+◌, ◌-◌, ◌≤◌, ◌<◌}
-use native.Mathlib.Numerals.{add-one}
+use Rattle.std.proofs.Common.{◌≡◌, refl, sym, ap, ◌∙◌, Bool, true, List, [], ◌∷◌, ◌++◌, map, ℕ, zero, suc, ◌+◌, ◌-◌, ◌≤◌, ◌<◌, add-one, arith, ne_eqb, le-leb, leb, eqb, length, get_or}
 use native.Mathlib.Decide.{dec_le}
-use native.Mathlib.Omega.{arith}
-use borrow.Author.Tests.{ne_eqb, le-leb, lt-leb}
-use lib.Dec.{leb, eqb}
-use lib.ListN.{length, get_or}
+use borrow.Author.Tests.{lt-leb}
 use Rattle.keys.specs.Choice.{pick}
 use Rattle.paper.specs.Lists.{tab, ins, swap, all, pairs, sum, less, below_first, rising}
 use Rattle.paper.specs.Calls.{between}

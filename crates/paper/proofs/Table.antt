@@ -1,11 +1,6 @@
 -- The bench samples marked P, proved of the definitions together: one table, one claim. A test that computes over the table says that every
 -- row is right, and one law turns it into each row. Assumes nothing.
-use mathlib.Core.Path.{◌≡◌, refl}
-use mathlib.Core.List.{List, [], ◌∷◌}
-use Prim.Native.Nat.{ℕ, ◌<◌}
-use borrow.Author.Tests.{eqb-true}
-use lib.Dec.{eqb}
-use lib.ListN.{length, get_or}
+use Rattle.std.proofs.Common.{◌≡◌, refl, List, [], ◌∷◌, ℕ, ◌<◌, eqb-true, eqb, length, get_or}
 use Rattle.octets.specs.Bytes.{be}
 use Rattle.keys.specs.Keys.{by_number, order, head_of, common}
 use Rattle.paper.specs.Lists.{all}

@@ -1,17 +1,10 @@
 -- What an edit of one slot's payload leaves as it was. A piece that lies within that payload is apart from every other piece by U3, and one
 -- below the end is apart from all: so a page that differs from a fit page only there has the same frame and the same other rows. Assumes
 -- nothing.
-use mathlib.Core.Path.{◌≡◌, ◌∙◌}
-use mathlib.Core.Bool.{true}
-use mathlib.Core.Logic.{◌⊎◌, inl, inr, ⊎_elim}
-use mathlib.Core.List.{List, ◌++◌, map}
-use Prim.Native.Nat.{ℕ, ◌+◌, ◌-◌, ◌≤◌, ◌<◌, min, max}
+use Rattle.std.proofs.Common.{◌≡◌, ◌∙◌, true, ◌⊎◌, inl, inr, ⊎_elim, List, ◌++◌, map, ℕ, ◌+◌, ◌-◌, ◌≤◌, ◌<◌, min, max, arith, leb-true, le-leb, leb, length, get_or, take, length-append, get_or-append-add}
 use native.Mathlib.Decide.{dec_le, dec_lt}
-use native.Mathlib.Omega.{arith}
-use borrow.Author.Tests.{leb-true, le-leb, lt-leb}
-use lib.Dec.{leb}
-use lib.ListN.{length, get_or, take, length-map, length-append, get_or-append, get_or-map}
-use lib.Seq.{get_or-append-add}
+use borrow.Author.Tests.{lt-leb}
+use lib.ListN.{length-map, get_or-append, get_or-map}
 use Rattle.octets.specs.Bytes.{part, big_bytes}
 use Rattle.keys.specs.Choice.{pick}
 use Rattle.paper.specs.Lists.{all}

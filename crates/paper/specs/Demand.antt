@@ -1,6 +1,6 @@
 -- Demand 3, in the customer's words and order.
-use Rattle.std.specs.Prelude.{◌≡◌, ℕ, ◌≤◌, Bool, true, false, length, take, get_or, ltb, Result, Ok, Err}
-use mathlib.Core.List.{List, [], ◌∷◌, ◌++◌, Permᴰ}
+use Rattle.std.specs.Prelude.{◌≡◌, ℕ, ◌≤◌, Bool, true, false, length, take, get_or, ltb, Result, Ok, Err, List, [], ◌∷◌, ◌++◌}
+use mathlib.Core.List.{Permᴰ}
 use Rattle.octets.specs.Bytes.{IsBytes}
 use Rattle.keys.specs.Choice.{both}
 use Rattle.keys.specs.Keys.{order}

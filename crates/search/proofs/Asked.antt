@@ -1,10 +1,5 @@
 -- What searches ask of a header's numbers, where the page keeps the header rules. Assumes nothing.
-use mathlib.Core.Path.{◌≡◌, refl}
-use mathlib.Core.Bool.{true}
-use mathlib.Core.List.{List}
-use Prim.Native.Nat.{ℕ, ◌*◌, ◌≤◌, ◌<◌}
-use native.Mathlib.Omega.{arith}
-use lib.ListN.{length}
+use Rattle.std.proofs.Common.{◌≡◌, refl, List, ℕ, ◌*◌, ◌≤◌, ◌<◌, arith, length, Ok}
 use Rattle.octets.specs.Bytes.{le}
 use Rattle.paper.specs.Page.{frame_of, numbers_of, header_of}
 use Rattle.paper.specs.Verdicts.{fence_piece}
@@ -12,7 +7,6 @@ use Rattle.paper.specs.declared.page.Slot.{Slot}
 use Rattle.paper.specs.declared.page.Header.{Header}
 use Rattle.paper.proofs.Same.{body_bytes_long}
 use Rattle.paper.proofs.Fit.{Lie, Rules}
-use Rattle.std.specs.Prelude.{Ok}
 use Rattle.node.specs.Admit.{admit_of}
 use Rattle.node.proofs.Admits.{slots-within, prefix_lies}
 use Rattle.search.specs.Fence.{LongLies}
@@ -62,6 +56,17 @@ module _ (p : List ℕ) (n : ℕ) where
   prefix-read e = e
 
 -- ---- what a page that may be read has
-pub asked : (w : ℕ) (p : List ℕ) (n : ℕ) → admit_of w p n ≡ Ok tt → (16384 ≤ length p) × (8 * (header_of p).count ≤ 16256) × ((header_of p).prefix_len ≤ 16256)
-unfolding header_of numbers_of
-asked w p n e = let s = slots-within w p n e (le 2 p 2) refl in (s.0, s.1, prefix_lies w p n e)
+module _ (w : ℕ) (p : List ℕ) (n : ℕ) (e : admit_of w p n ≡ Ok tt) where
+  pub asked-size : 16384 ≤ length p
+  asked-size = (slots-within w p n e (le 2 p 2) refl).0
+
+  pub asked-slots : 8 * (header_of p).count ≤ 16256
+  unfolding header_of numbers_of
+  asked-slots = (slots-within w p n e (le 2 p 2) refl).1
+
+  pub asked-prefix : (header_of p).prefix_len ≤ 16256
+  unfolding header_of
+  asked-prefix = prefix_lies w p n e
+
+  pub asked : (16384 ≤ length p) × (8 * (header_of p).count ≤ 16256) × ((header_of p).prefix_len ≤ 16256)
+  asked = (asked-size, asked-slots, asked-prefix)

@@ -1,11 +1,6 @@
 -- The bounds by a header are the paper's: the window lies among the slots, and within the prefix a slot that is visited meets the probe's suffix.
 -- Assumes nothing.
-use mathlib.Core.Path.{◌≡◌, refl, sym, ◌∙◌}
-use mathlib.Core.Bool.{Bool, true, false}
-use mathlib.Core.List.{List}
-use Prim.Native.Nat.{ℕ, zero, suc, ◌-◌, ◌*◌, ◌≤◌, ◌<◌}
-use native.Mathlib.Omega.{arith}
-use lib.ListN.{length}
+use Rattle.std.proofs.Common.{◌≡◌, refl, sym, ◌∙◌, Bool, true, false, List, ℕ, ◌-◌, ◌≤◌, ◌<◌, arith, length, Result, Ok, Err}
 use Rattle.keys.specs.Choice.{pick}
 use Rattle.keys.specs.Keys.{head_of}
 use Rattle.paper.specs.Page.{frame_of, numbers_of, header_of, hints_of}
@@ -17,14 +12,14 @@ use Rattle.paper.proofs.Halving.{halving-fuel, halving-same}
 use Rattle.paper.specs.Calls.{bound_of}
 use Rattle.paper.specs.declared.refusal.Refusal.{Refusal}
 use Rattle.node.specs.Admit.{admit_of}
-use Rattle.node.proofs.Admits.{admitted, admitted-judge, refused-admit}
+use Rattle.node.proofs.Admits.{admitted-judge, refused-admit}
 use Rattle.hint.proofs.Windows.{window-within}
 use Rattle.search.specs.Probe.{class_by, class_number}
 use Rattle.search.specs.Slot.{met_at, halved}
 use Rattle.search.specs.Bounds.{window_of, searched, bound_with}
 use Rattle.search.specs.declared.seek.Window.{Window}
+use Rattle.search.proofs.Asked.{count-read, prefix-read, asked-size, asked-slots, asked-prefix}
 use Rattle.search.proofs.Classes.{class_is, class_before, class_within, class_after, class_number-lt}
-use Rattle.std.specs.Prelude.{Result, Ok, Err}
 use Rattle.std.specs.declared.cmp.Ordering.{Ordering}
 use Rattle.std.specs.declared.cmp.Ordering.TheVariants.{Less, Equal, Greater}
 
@@ -58,19 +53,12 @@ module _ (p : List ℕ) (flag count head : ℕ) where
       go false = (omega arith, omega arith)
 
   -- v is the window that was found
-  pub window-fits : (v : Window) → v ≡ window_of p flag count head → 8 * count ≤ 16256 → (8 * v.high ≤ 16256) × (v.low ≤ v.high)
-  window-fits v e h = let l = window-lies in rw e (omega arith, l.0)
+  module _ (v : Window) (e : v ≡ window_of p flag count head) where
+    pub window-ordered : v.low ≤ v.high
+    window-ordered = rw e window-lies.0
 
-pub searched_by : (u : Bool) (w : ℕ) (p : List ℕ) (h : Header) (s : List ℕ) (head : ℕ) (v : Window) → head ≡ head_of s → v ≡ window_of p h.flag h.count head
-    → halved u w p h.end s v.low v.high ≡ searched u w p h s
-unfolding searched
-searched_by u w p h s head v e f = rw (f, e)
-
-one_left : (c : ℕ) → c < 3 → (c ≡ 0 → ⊥) → (c ≡ 2 → ⊥) → c ≡ 1
-one_left zero l f g = absurd (f refl)
-one_left (suc zero) l f g = refl
-one_left (suc (suc zero)) l f g = absurd (g refl)
-one_left (suc (suc (suc c))) l f g = absurd (omega arith)
+    pub window-there : v.high ≤ count
+    window-there = rw e window-lies.1
 
 -- ---- by class; c is the class as a number
 module _ (u : Bool) (w : ℕ) (p : List ℕ) (h : Header) (k : List ℕ) (c : ℕ) (e : c ≡ class_number (class_by p h.prefix_len k)) where
@@ -81,16 +69,16 @@ module _ (u : Bool) (w : ℕ) (p : List ℕ) (h : Header) (k : List ℕ) (c : �
   unfolding bound_with bound_by
   bound-before f = rw (class_before (class_by p h.prefix_len k) (sym e ∙ f))
 
-  pub bound-after : c ≡ 2 → bound_with u w p h k ≡ Ok h.count
+  pub bound-within : c ≡ 1 → bound_with u w p h k ≡ found
   unfolding bound_with bound_by
-  bound-after f = rw (class_after (class_by p h.prefix_len k) (sym e ∙ f))
+  bound-within f = rw (class_within (class_by p h.prefix_len k) (sym e ∙ f))
 
-  pub bound-within : (c ≡ 0 → ⊥) → (c ≡ 2 → ⊥) → bound_with u w p h k ≡ found
+  pub bound-after : (c ≡ 0 → ⊥) → (c ≡ 1 → ⊥) → bound_with u w p h k ≡ Ok h.count
   unfolding bound_with bound_by
-  bound-within f g =
+  bound-after f g =
       let l : c < 3 = rw e (class_number-lt (class_by p h.prefix_len k)) in
-      let one = one_left c l f g in
-      rw (class_within (class_by p h.prefix_len k) (sym e ∙ one))
+      let two : c ≡ 2 = omega arith in
+      rw (class_after (class_by p h.prefix_len k) (sym e ∙ two))
 
 -- ---- the paper's bound
 module _ (u : Bool) (w : ℕ) (p k : List ℕ) where
@@ -147,3 +135,9 @@ module _ (u : Bool) (w : ℕ) (p k : List ℕ) where
   pub bound-admitted : admit_of w p (length k) ≡ Ok tt → bound_of u w p k ≡ bound_with u w p (header_of p) k
   unfolding bound_of
   bound-admitted e = admitted-judge w p (length k) e (bound u w p k) Err ∙ sym bound-is
+
+pub ruleset windows = (window-all, window-used)
+
+pub ruleset lying = (window-ordered, window-there)
+
+pub ruleset whole_call = (bound-refused, bound-admitted, bound-before, bound-after, bound-within, asked-size, asked-slots, asked-prefix, prefix-read, count-read)

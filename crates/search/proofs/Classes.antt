@@ -1,14 +1,7 @@
 -- A probe against the page's prefix: the class as a number, and the probe's suffix. Assumes
 -- nothing.
-use mathlib.Core.Path.{◌≡◌, refl, sym, ap, ◌∙◌}
-use mathlib.Core.Bool.{Bool, true, false}
-use mathlib.Core.List.{List}
-use Prim.Native.Nat.{ℕ, ◌-◌, ◌≤◌, ◌<◌}
-use native.Mathlib.Omega.{arith}
-use borrow.Author.Tests.{eq-eqb, ne_eqb}
-use lib.Dec.{eqb}
-use lib.ListN.{length, take, drop, length-drop, drop_of_length-le}
-use lib.Seq.{take_all, drop-length}
+use Rattle.std.proofs.Common.{◌≡◌, refl, sym, ap, ◌∙◌, Bool, true, false, List, ℕ, ◌-◌, ◌≤◌, ◌<◌, arith, eq-eqb, ne_eqb, eqb, length, take, drop, length-drop, drop_of_length-le, take_all}
+use lib.Seq.{drop-length}
 use Rattle.octets.specs.Bytes.{le, part}
 use Rattle.octets.proofs.Part.{part_none}
 use Rattle.keys.specs.Keys.{begins, order, same_list}
@@ -123,3 +116,9 @@ suffix-none p k n e h =
     ∙ drop-length k
     ∙ sym (drop_of_length-le k {i = n} h)
     ∙ ap (λ (i : ℕ). drop i k) e
+
+pub ruleset classes = (class_short, class_long)
+
+pub ruleset within = (within_all, within_is)
+
+pub ruleset suffixes = (suffix-none, suffix-rest)

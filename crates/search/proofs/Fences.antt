@@ -1,12 +1,6 @@
 -- A suffix against the fences, case by case; and on a page with that header, for a key that has the prefix, it is the paper's `inside`, since
 -- keys with the same prefix are ordered by their suffixes. Assumes nothing.
-use mathlib.Core.Path.{◌≡◌, refl, sym, ap, ◌∙◌}
-use mathlib.Core.Bool.{Bool, true, false}
-use mathlib.Core.List.{List, [], ◌∷◌, ◌++◌}
-use Prim.Native.Nat.{ℕ, ◌+◌, ◌≤◌, ◌<◌}
-use borrow.Author.Tests.{lt-leb, eq-eqb, ne_eqb}
-use lib.ListN.{take, take-append-drop}
-use Rattle.octets.specs.Bytes.{part, big_bytes}
+use Rattle.std.proofs.Common.{◌≡◌, refl, sym, ap, ◌∙◌, Bool, true, false, List, [], ◌∷◌, ◌++◌, ℕ, eq-eqb, ne_eqb, take, take-append-drop}
 use Rattle.keys.specs.Keys.{order}
 use Rattle.keys.proofs.Orders.{order-append, same_list_eq}
 use Rattle.paper.specs.Lists.{less}
@@ -16,7 +10,6 @@ use Rattle.paper.specs.Searches.{probe_suffix}
 use Rattle.paper.specs.Calls.{has_prefix}
 use Rattle.paper.specs.declared.page.Slot.{Slot}
 use Rattle.paper.specs.declared.page.Header.{Header}
-use Rattle.node.proofs.Spelling.{suffix-short}
 use Rattle.search.specs.Fence.{inside_by}
 use Rattle.std.specs.Ordering.{is_lt}
 
@@ -31,14 +24,7 @@ pub below_empty : (p x : List ℕ) (s : Slot) → s.len ≡ 0 → false ≡ less
 unfolding suffix_of
 below_empty p x s e = rw e (less_empty x)
 
--- l is its suffix as code found it, r whether x is below it
-module _ (p x l : List ℕ) (s : Slot) (r : Bool) (e : r ≡ less x l) where
-  pub below-short : (v : List ℕ) → s.len ≤ 4 → v ≡ big_bytes 4 s.head → l ≡ take s.len v → r ≡ less x (suffix_of p s)
-  below-short v h g k = e ∙ ap (less x) (k ∙ ap (take s.len) g ∙ sym (suffix-short p s h))
-
-  pub below-long : 4 < s.len → l ≡ part s.len p (96 + s.offset) → r ≡ less x (suffix_of p s)
-  unfolding suffix_of
-  below-long h k = rw (lt-leb s.len 4 h) (e ∙ ap (less x) k)
+pub ruleset empty_fence = (below_empty)
 
 -- ---- both fences, as they were read
 module _ (p : List ℕ) (s : Slot) where
@@ -90,3 +76,5 @@ module _ (p k : List ℕ) (held : has_prefix (frame_of p) k ≡ true) where
   -- x is the key's suffix
   pub inside_is : (h : Header) (x : List ℕ) → h ≡ header_of p → x ≡ probe_suffix (frame_of p) k → inside_by p h x ≡ inside (frame_of p) k
   inside_is h x e d = rw (e, d) of-page
+
+pub ruleset insides = (lower-read, upper-read, inside-below, inside-free, inside-upper)

@@ -1,14 +1,7 @@
 -- Find by a header is the paper's: a probe has the prefix exactly when its class is the middle one, and the slot tested meets the probe's suffix.
 -- Assumes nothing.
-use mathlib.Core.Path.{◌≡◌, refl, sym, ap, ◌∙◌}
-use mathlib.Core.Bool.{Bool, true, false}
-use mathlib.Core.List.{List, [], ◌∷◌}
-use Prim.Native.Nat.{ℕ, ◌<◌}
+use Rattle.std.proofs.Common.{◌≡◌, refl, sym, ap, ◌∙◌, Bool, true, false, List, [], ◌∷◌, ℕ, ◌<◌, arith, le-ltb, ltb, eqb, length, Result, Ok, Err}
 use native.Mathlib.Decide.{dec_lt}
-use native.Mathlib.Omega.{arith}
-use borrow.Author.Tests.{le-ltb}
-use lib.Dec.{ltb, eqb}
-use lib.ListN.{length}
 use Rattle.keys.specs.Choice.{pick}
 use Rattle.paper.specs.Page.{frame_of, numbers_of, header_of}
 use Rattle.paper.specs.Searches.{probe_suffix, class_of, slot_order, tested, find_at, bound}
@@ -19,15 +12,15 @@ use Rattle.paper.specs.declared.refusal.Refusal.{Refusal}
 use Rattle.paper.specs.declared.refusal.Refusal.TheVariants.{Prefix}
 use Rattle.paper.proofs.Holding.{judge-append}
 use Rattle.node.specs.Admit.{admit_of}
-use Rattle.node.proofs.Admits.{admitted, admitted-judge, refused-admit}
+use Rattle.node.proofs.Admits.{admitted-judge, refused-admit}
 use Rattle.search.specs.Probe.{class_by, class_number}
 use Rattle.search.specs.Slot.{met_alone}
 use Rattle.search.specs.Bounds.{searched}
 use Rattle.search.specs.Finds.{tested_at, find_in, find_with}
+use Rattle.search.proofs.Asked.{prefix-read, asked-size, asked-slots, asked-prefix}
 use Rattle.search.proofs.Classes.{class_is, prefix_class}
 use Rattle.search.proofs.Meets.{alone-there}
 use Rattle.search.proofs.Bounded.{met, searched-is}
-use Rattle.std.specs.Prelude.{Result, Ok, Err}
 use Rattle.std.specs.declared.cmp.Ordering.{Ordering}
 use Rattle.std.specs.declared.cmp.Ordering.TheVariants.{Less, Equal, Greater}
 use Rattle.paper.specs.declared.answers.Found.TheVariants.{Equal, Smaller}
@@ -82,3 +75,5 @@ module _ (w : ℕ) (p k : List ℕ) where
   pub find-admitted : admit_of w p (length k) ≡ Ok tt → find_of w p k ≡ find_with w p (header_of p) k
   unfolding find_of
   find-admitted e = judge-append (probe_checks w p k) (prefix_held p k ∷ []) _ Err ∙ admitted-judge w p (length k) e _ Err ∙ sym find-is
+
+pub ruleset whole_call = (find-refused, find-admitted, find-outside, find-within, asked-size, asked-slots, asked-prefix, prefix-read)

@@ -1,13 +1,7 @@
 -- How a slot meets a probe, case by case: what code knows at each answer. Assumes nothing.
-use mathlib.Core.Path.{◌≡◌, refl, ◌∙◌}
-use mathlib.Core.Bool.{Bool, true, false}
-use mathlib.Core.List.{List}
-use Prim.Native.Nat.{ℕ, ◌+◌, ◌-◌, ◌≤◌, ◌<◌, min}
+use Rattle.std.proofs.Common.{◌≡◌, refl, ◌∙◌, Bool, true, false, List, ℕ, ◌+◌, ◌-◌, ◌≤◌, ◌<◌, min, arith, le-leb, lt-ltb, le-ltb, leb, ltb, length, take, drop, Ok, Err, Some, None, Option}
 use native.Mathlib.Decide.{dec_le}
-use native.Mathlib.Omega.{arith}
-use borrow.Author.Tests.{le-leb, lt-leb, lt-ltb, le-ltb}
-use lib.Dec.{leb, ltb}
-use lib.ListN.{length, take, drop}
+use borrow.Author.Tests.{lt-leb}
 use Rattle.octets.specs.Bytes.{part}
 use Rattle.keys.specs.Choice.{pick}
 use Rattle.keys.specs.Keys.{by_number, order, head_of}
@@ -23,7 +17,6 @@ use Rattle.node.specs.Admit.{slot_read_of}
 use Rattle.node.proofs.Admits.{slot_is, slot-judge, slot-refused}
 use Rattle.node.proofs.Spelling.{suffix-room}
 use Rattle.search.specs.Slot.{rank_of, met_at, met_alone}
-use Rattle.std.specs.Prelude.{Ok, Err, Some, None, Option}
 use Rattle.std.specs.declared.cmp.Ordering.{Ordering}
 use Rattle.std.specs.declared.cmp.Ordering.TheVariants.{Less, Equal, Greater}
 
@@ -139,3 +132,11 @@ module _ (w : ℕ) (p : List ℕ) (count end : ℕ) (x : List ℕ) (i : ℕ) whe
   pub alone-there : i < count → met_alone w p count end x i ≡ met_at w p end x i
   unfolding met_alone met_at judge
   alone-there h = rw (lt-ltb i count h)
+
+pub ruleset ranks = (rank_below, rank-above, rank-lengths, rank-open)
+
+pub ruleset meeting = (meets-told, meets-open, open_room)
+
+pub ruleset meeting_at = (met-out, met-in, met_room)
+
+pub ruleset meeting_alone = (alone-refused, alone-met, alone-room)

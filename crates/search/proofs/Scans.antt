@@ -1,9 +1,5 @@
 -- On a fit page, for a key that has the prefix, a search of its suffix is a scan of the listing. Assumes nothing.
-use mathlib.Core.Path.{◌≡◌, ◌∙◌}
-use mathlib.Core.Bool.{Bool, true}
-use mathlib.Core.List.{List}
-use Prim.Native.Nat.{ℕ}
-use lib.ListN.{length}
+use Rattle.std.proofs.Common.{◌≡◌, ◌∙◌, Bool, true, List, ℕ, length, Ok}
 use Rattle.octets.specs.Bytes.{IsBytes}
 use Rattle.paper.specs.Page.{frame_of, header_of, view_of}
 use Rattle.paper.specs.Listing.{listing}
@@ -16,7 +12,6 @@ use Rattle.search.specs.Finds.{find_in}
 use Rattle.search.proofs.Classes.{prefix_same}
 use Rattle.search.proofs.Bounded.{searched-is}
 use Rattle.search.proofs.Found.{found-is}
-use Rattle.std.specs.Prelude.{Ok}
 
 -- x is the key's suffix
 module _ (w : ℕ) (p : List ℕ) (size : length p ≡ 16384) (b : IsBytes p) (F : Fit w (view_of w p)) (k : List ℕ) (hk : IsBytes k) (held : has_prefix (frame_of p) k ≡ true)

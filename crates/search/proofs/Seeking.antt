@@ -1,88 +1,95 @@
 -- A search's end: what halving met at the bound is what find's test would meet, and a bound that was not met is tested or told as it is.
 -- Assumes nothing.
-use mathlib.Core.Path.{◌≡◌, refl, sym, ap, subst, ◌∙◌}
-use mathlib.Core.Bool.{Bool, true, false}
-use mathlib.Core.List.{List}
-use Prim.Native.Nat.{ℕ, ◌≤◌, ◌<◌}
-use native.Mathlib.Omega.{arith}
-use borrow.Author.Tests.{lt-ltb, le-ltb}
+use Rattle.std.proofs.Common.{◌≡◌, sym, Bool, false, List, ℕ, ◌≤◌, ◌<◌, arith, lt-ltb, le-ltb, Result, Ok, Err}
 use Rattle.keys.specs.Keys.{head_of}
 use Rattle.paper.specs.Page.{header_of}
 use Rattle.paper.specs.Searches.{tested}
 use Rattle.paper.specs.declared.refusal.Refusal.{Refusal}
-use Rattle.paper.proofs.Sorted.{never}
-use Rattle.search.specs.Slot.{met_at, met_alone, halved, Ends}
-use Rattle.search.specs.Bounds.{window_of, searched}
-use Rattle.search.specs.Finds.{tested_at, bound_of_found, Told, Seeks}
-use Rattle.search.specs.declared.seek.Window.{Window}
+use Rattle.search.specs.Slot.{met_at, met_alone}
+use Rattle.search.specs.Bounds.{searched}
+use Rattle.search.specs.Finds.{tested_at, find_in, SearchEnds}
 use Rattle.search.proofs.Meets.{alone-there}
-use Rattle.search.proofs.Bounded.{window-lies, searched_by}
-use Rattle.std.specs.Prelude.{Result, Ok, Err}
+use Rattle.search.proofs.Bounded.{window-lies}
 use Rattle.std.specs.declared.cmp.Ordering.{Ordering}
 use Rattle.paper.specs.declared.answers.Found.{Found}
-use Rattle.search.specs.declared.halve.Halved.{Halved}
-use Rattle.std.specs.declared.cmp.Ordering.TheVariants.{Equal, Greater}
+use Rattle.std.specs.declared.cmp.Ordering.TheVariants.{Less, Equal, Greater}
 use Rattle.paper.specs.declared.answers.Found.TheVariants.{Equal as Found-as-Equal, Smaller}
 use Rattle.search.specs.declared.halve.Halved.TheVariants.{Same as Halved-as-Same, Above as Halved-as-Above, Unmet as Halved-as-Unmet}
 
-module _ (t : Bool) (w : ℕ) (p x : List ℕ) where
+module _ (w : ℕ) (p x : List ℕ) where
   -- ---- a bound that was not met
-  pub goes-untested : (i : ℕ) → t ≡ false → Told t w p x (Ok i) (Ok (Smaller i))
-  unfolding bound_of_found
-  goes-untested i e = (λ _. refl, λ k. never t k e)
+  module _ (i : ℕ) where
+    pub unmet-none : (header_of p).count ≤ i → tested_at w p (header_of p) x (Ok i) ≡ Ok (Smaller i)
+    unfolding tested_at
+    unmet-none l = rw (le-ltb i (header_of p).count l)
 
-  pub goes_none : (i c : ℕ) → c ≡ (header_of p).count → c ≤ i → Told t w p x (Ok i) (Ok (Smaller i))
-  unfolding bound_of_found tested_at
-  goes_none i c e l = (λ _. refl, λ _. let f : (header_of p).count ≤ i = rw (← e) l in rw (le-ltb i (header_of p).count f))
+    -- r is how the slot there meets the suffix
+    unmet-there : (r : Result Ordering Refusal) → i < (header_of p).count → r ≡ met_alone w p (header_of p).count (header_of p).end x i → tested_at w p (header_of p) x (Ok i) ≡ tested i r
+    unfolding tested_at
+    unmet-there r l e = rw (lt-ltb i (header_of p).count l, e)
 
-  pub goes-tested : (i c end : ℕ) (r : Result Found Refusal) → t ≡ true → c ≡ (header_of p).count → end ≡ (header_of p).end → i < c → r ≡ tested i (met_alone w p c end x i) → Told t w p x (Ok i) r
-  unfolding tested_at
-  goes-tested i c end r k e f l g = (λ z. never t k z, λ _. let m : i < (header_of p).count = rw (← e) l in rw (lt-ltb i (header_of p).count m, ← e, ← f) g)
+    pub unmet-refused : (q : Refusal) → met_alone w p (header_of p).count (header_of p).end x i ≡ Err q → i < (header_of p).count → tested_at w p (header_of p) x (Ok i) ≡ Err q
+    unfolding tested
+    unmet-refused q e l = unmet-there (Err q) l (sym e)
+
+    pub unmet-equal : met_alone w p (header_of p).count (header_of p).end x i ≡ Ok Equal → i < (header_of p).count → tested_at w p (header_of p) x (Ok i) ≡ Ok (Found-as-Equal i)
+    unfolding tested
+    unmet-equal e l = unmet-there (Ok Equal) l (sym e)
+
+    pub unmet-less : met_alone w p (header_of p).count (header_of p).end x i ≡ Ok Less → i < (header_of p).count → tested_at w p (header_of p) x (Ok i) ≡ Ok (Smaller i)
+    unfolding tested
+    unmet-less e l = unmet-there (Ok Less) l (sym e)
+
+    pub unmet-greater : met_alone w p (header_of p).count (header_of p).end x i ≡ Ok Greater → i < (header_of p).count → tested_at w p (header_of p) x (Ok i) ≡ Ok (Smaller i)
+    unfolding tested
+    unmet-greater e l = unmet-there (Ok Greater) l (sym e)
 
   -- ---- a slot that was met: o is how
   met-tested : (o : Ordering) (i : ℕ) → i < (header_of p).count → met_at w p (header_of p).end x i ≡ Ok o → tested_at w p (header_of p) x (Ok i) ≡ tested i (Ok o)
   unfolding tested_at
   met-tested o i l e = rw (lt-ltb i (header_of p).count l, alone-there w p (header_of p).count (header_of p).end x i l, e)
 
-  -- the window v was searched, and r says how halving ended
-  module _ (u : Bool) (head end flag count : ℕ) (v : Window) (r : Result Halved Refusal) (a : head ≡ head_of x) (b : flag ≡ (header_of p).flag) (c : count ≡ (header_of p).count) (d : end ≡ (header_of p).end)
-      (e : v ≡ window_of p flag count head) (E : Ends u w p end x v.low v.high r) where
-    window : v ≡ window_of p (header_of p).flag (header_of p).count head
-    window = rw (← b, ← c) e
+  -- ---- the bound that a search ended at
+  module _ (u : Bool) where
+    pub seeks-refused : (q : Refusal) → SearchEnds u w p x (Err q) → searched u w p (header_of p) x ≡ Err q
+    unfolding searched
+    seeks-refused q E = E
 
-    whole : halved u w p end x v.low v.high ≡ searched u w p (header_of p) x
-    whole = rw d (searched_by u w p (header_of p) x head v a window)
+    pub seeks-same : (i : ℕ) → SearchEnds u w p x (Ok (Halved-as-Same i)) → searched u w p (header_of p) x ≡ Ok i
+    unfolding searched
+    seeks-same i E = E.0
 
-    ended : (s : Result Halved Refusal) → r ≡ s → Ends u w p end x v.low v.high s
-    ended s k = subst (λ y. Ends u w p end x v.low v.high y) k E
+    pub seeks-above : (i : ℕ) → SearchEnds u w p x (Ok (Halved-as-Above i)) → searched u w p (header_of p) x ≡ Ok i
+    unfolding searched
+    seeks-above i E = E.0
 
-    there : (i : ℕ) → i < v.high → i < (header_of p).count
-    there i l = let m = (window-lies p (header_of p).flag (header_of p).count head).1 in let n : v.high ≤ (header_of p).count = rw window m in omega arith
+    pub seeks-unmet : (i : ℕ) → SearchEnds u w p x (Ok (Halved-as-Unmet i)) → searched u w p (header_of p) x ≡ Ok i
+    unfolding searched
+    seeks-unmet i E = E
 
-    is : (b : Result ℕ Refusal) → halved u w p end x v.low v.high ≡ b → searched u w p (header_of p) x ≡ b
-    is b k = sym whole ∙ k
+  -- ---- and what find says there
+  pub finds-refused : (q : Refusal) → SearchEnds false w p x (Err q) → find_in w p (header_of p) x ≡ Err q
+  unfolding find_in tested_at
+  finds-refused q E = rw (seeks-refused false q E)
 
-    pub seeks-same : (i : ℕ) → r ≡ Ok (Halved-as-Same i) → Seeks u t w p x (Ok (Found-as-Equal i))
-    unfolding bound_of_found tested
-    seeks-same i k =
-        let N = ended (Ok (Halved-as-Same i)) k in
-        let s = is (Ok i) N.0 in
-        (λ _. sym s, λ _. rw s (sym (met-tested Equal i (there i N.1) (rw (← d) N.2))))
+  pub finds-same : (i : ℕ) → SearchEnds false w p x (Ok (Halved-as-Same i)) → find_in w p (header_of p) x ≡ Ok (Found-as-Equal i)
+  unfolding find_in tested
+  finds-same i E =
+      let l = (window-lies p (header_of p).flag (header_of p).count (head_of x)).1 in
+      rw (seeks-same false i E) (met-tested Equal i (omega (arith, E.1, l)) E.2)
 
-    pub seeks-above : (i : ℕ) → r ≡ Ok (Halved-as-Above i) → Seeks u t w p x (Ok (Smaller i))
-    unfolding bound_of_found tested
-    seeks-above i k =
-        let N = ended (Ok (Halved-as-Above i)) k in
-        let s = is (Ok i) N.0 in
-        (λ _. sym s, λ _. rw s (sym (met-tested Greater i (there i N.1) (rw (← d) N.2))))
+  pub finds-above : (i : ℕ) → SearchEnds false w p x (Ok (Halved-as-Above i)) → find_in w p (header_of p) x ≡ Ok (Smaller i)
+  unfolding find_in tested
+  finds-above i E =
+      let l = (window-lies p (header_of p).flag (header_of p).count (head_of x)).1 in
+      rw (seeks-above false i E) (met-tested Greater i (omega (arith, E.1, l)) E.2)
 
-    pub seeks-unmet : (i : ℕ) (f : Result Found Refusal) → r ≡ Ok (Halved-as-Unmet i) → Told t w p x (Ok i) f → Seeks u t w p x f
-    seeks-unmet i f k g = let s = is (Ok i) (ended (Ok (Halved-as-Unmet i)) k) in rw s g
+  pub finds-unmet : (i : ℕ) (f : Result Found Refusal) → SearchEnds false w p x (Ok (Halved-as-Unmet i)) → f ≡ tested_at w p (header_of p) x (Ok i) → find_in w p (header_of p) x ≡ f
+  unfolding find_in
+  finds-unmet i f E e = rw (seeks-unmet false i E) (sym e)
 
-    pub seeks-refused : (q : Refusal) → r ≡ Err q → Seeks u t w p x (Err q)
-    unfolding bound_of_found tested_at
-    seeks-refused q k = let s = is (Err q) (ended (Err q) k) in (λ _. sym s, λ _. rw s)
+pub ruleset not_met = (unmet-none, unmet-refused, unmet-less, unmet-equal, unmet-greater)
 
--- ---- the end of a search told as a bound
-pub as_bound : (u : Bool) (w : ℕ) (p x : List ℕ) (f g : Result Found Refusal) → Seeks u false w p x f → f ≡ g → bound_of_found g ≡ searched u w p (header_of p) x
-as_bound u w p x f g S e = ap bound_of_found (sym e) ∙ S.0 refl
+pub ruleset bounds = (seeks-refused, seeks-same, seeks-above, seeks-unmet)
+
+pub ruleset finds = (finds-refused, finds-same, finds-above, finds-unmet)

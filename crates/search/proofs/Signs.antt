@@ -1,12 +1,5 @@
 -- A slot compared by a header is the paper's comparison: the class as a number picks the same sign. Assumes nothing.
-use mathlib.Core.Path.{◌≡◌, refl, sym, ap, ◌∙◌}
-use mathlib.Core.Bool.{Bool, true, false}
-use mathlib.Core.List.{List, [], ◌∷◌}
-use Prim.Native.Nat.{ℕ}
-use borrow.Author.Tests.{eq-eqb, ne_eqb}
-use lib.Dec.{ltb}
-use lib.ListN.{length}
-use lib.IntN.{pos, negsuc}
+use Rattle.std.proofs.Common.{◌≡◌, refl, sym, ap, ◌∙◌, Bool, true, false, List, [], ◌∷◌, ℕ, eq-eqb, ne_eqb, ltb, length, pos, negsuc, eqb, to_z, of_z, w8, Ok, Err}
 use Rattle.keys.specs.Choice.{pick}
 use Rattle.paper.specs.Page.{slot_of, frame_of, numbers_of, header_of}
 use Rattle.paper.specs.Verdicts.{slot_payload, within}
@@ -18,14 +11,12 @@ use Rattle.paper.specs.declared.refusal.Refusal.{Refusal}
 use Rattle.paper.specs.declared.refusal.Refusal.TheVariants.{SlotNumber, Payload}
 use Rattle.paper.proofs.Holding.{judge-append}
 use Rattle.node.specs.Admit.{admit_of}
-use Rattle.node.proofs.Admits.{admitted, admitted-judge, refused-admit}
+use Rattle.node.proofs.Admits.{admitted-judge, refused-admit}
 use Rattle.search.specs.Probe.{class_by, class_number}
 use Rattle.search.specs.Slot.{met_alone}
 use Rattle.search.specs.Compares.{sign_by, signed, compare_with}
+use Rattle.search.proofs.Asked.{prefix-read, asked-size, asked-slots, asked-prefix}
 use Rattle.search.proofs.Classes.{class_is}
-use lib.Dec.{eqb}
-use Rattle.std.proofs.Common.{to_z, of_z, w8}
-use Rattle.std.specs.Prelude.{Ok, Err}
 use Rattle.std.specs.declared.cmp.Ordering.{Ordering}
 use Rattle.std.specs.declared.cmp.Ordering.TheVariants.{Less, Equal, Greater}
 
@@ -94,3 +85,7 @@ module _ (w : ℕ) (p : List ℕ) (i : ℕ) (k : List ℕ) where
   pub compare-admitted : admit_of w p (length k) ≡ Ok tt → compare_of w p i k ≡ compare_with w p (header_of p) i k
   unfolding compare_of
   compare-admitted e = judge-append (probe_checks w p k) (slot_there p i ∷ []) _ Err ∙ admitted-judge w p (length k) e _ Err ∙ sym compare-is
+
+pub ruleset whole_call = (compare-refused, compare-admitted, compare-out, compare-met, sign_whole, asked-size, asked-slots, asked-prefix, prefix-read)
+
+pub ruleset signs = (sign_before, sign_after, sign_within)

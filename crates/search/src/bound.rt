@@ -2,47 +2,38 @@
 ghost use Rattle.std.specs.Prelude.{◌≡◌, true, false, ◌*◌, ◌≤◌, length};
 ghost use Rattle.paper.specs.Page.{header_of};
 ghost use Rattle.paper.specs.Calls.{bound_of};
-ghost use Rattle.search.specs.Bounds.{searched, bound_with};
+ghost use Rattle.search.specs.Bounds.{searched};
 
+use crate::halve::Halved;
+use crate::page::Slots;
 use crate::{probe, seek};
 use node::admit;
 use octets::number;
-use paper::answers::Found;
 use paper::refusal::Refusal;
 
 // The bound of a probe's suffix on a page: 14.
+#[tactic(auto, using(crate::proofs::Seeking::bounds))]
 pub fn bound_at(p: &[u8], width: u8, suffix: &[u8], upper: bool) -> Result<usize, Refusal>
     requires { (16384 ≤ length p.now) × (8 * (header_of p.now).count ≤ 16256) }
     ensures { result ≡ searched upper width p.now (header_of p.now) suffix.now }
 {
-    let found = seek::seek(p, width, suffix, upper, false)?;
-    match found {
-        Found::Equal(i) => Ok(i),
-        Found::Smaller(i) => Ok(i),
+    let ended = seek::seek(Slots { page: p, width }, suffix, upper)?;
+    match ended {
+        Halved::Same(i) | Halved::Above(i) | Halved::Unmet(i) => Ok(i),
     }
-}
-
-// The bound of a probe on a page that may be read: 14.
-fn bound_with(p: &[u8], width: u8, key: &[u8], upper: bool) -> Result<usize, Refusal>
-    requires { (16384 ≤ length p.now) × (8 * (header_of p.now).count ≤ 16256) × ((header_of p.now).prefix_len ≤ 16256) }
-    ensures { result ≡ bound_with upper width p.now (header_of p.now) key.now }
-{
-    let class = probe::class(p, number::read_u16(p, 46), key);
-    if class == 0 {
-        return Ok(0);
-    }
-    if class == 2 {
-        return Ok(number::read_u16(p, 2) as usize);
-    }
-    bound_at(p, width, probe::suffix(p, key), upper)
 }
 
 // Both bounds.
+#[tactic(auto, using(crate::proofs::Bounded::whole_call))]
 fn bound(p: &[u8], width: u8, key: &[u8], upper: bool) -> Result<usize, Refusal>
     ensures { result ≡ bound_of upper width p.now key.now }
 {
     admit::admit(p, width, key.len())?;
-    bound_with(p, width, key, upper)
+    match probe::class(p, number::read_u16(p, 46), key) {
+        0 => Ok(0),
+        1 => bound_at(p, width, probe::suffix(p, key), upper),
+        _ => Ok(number::read_u16(p, 2) as usize),
+    }
 }
 
 // The number of keys below the probe, as halving finds it. Refuses 1, 2, 3, 4, 14.

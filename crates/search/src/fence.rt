@@ -4,29 +4,25 @@ ghost use Rattle.paper.specs.Lists.{less};
 ghost use Rattle.paper.specs.Page.{suffix_of, header_of};
 ghost use Rattle.search.specs.Fence.{LongLies, inside_by};
 
-use crate::slot;
 use node::{header, key};
 use paper::page::Slot;
 
-// Whether a suffix is below that of a slot, a fence's or an entry's: none is below an empty one, and a short one's bytes are its
-// head's, whatever its head pads.
+// Whether a suffix is below that of a slot, a fence's or an entry's: none is below an empty one.
+#[tactic(auto, using(crate::proofs::Fences::empty_fence))]
 pub fn below_fence(p: &[u8], s: Slot, suffix: &[u8]) -> bool
     requires { LongLies (length p.now) s }
     ensures { result ≡ less suffix.now (suffix_of p.now s) }
 {
-    let n = s.len as usize;
-    if n == 0 {
+    if s.len == 0 {
         return false;
     }
-    if n <= 4 {
-        let four = key::head_bytes(s.head);
-        return key::below(suffix, &four[..n]);
-    }
-    key::below(suffix, slot::long_suffix(p, s))
+    let four = key::head_bytes(s.head);
+    key::below(suffix, key::suffix(p, s, &four))
 }
 
 // Whether a probe's suffix lies inside the fences of a page: the lower one included, the upper one excluded; an upper slot of
 // length 0 bounds nothing. The two fences are read where they stand.
+#[tactic(auto, using(crate::proofs::Fences::insides))]
 pub fn inside(p: &[u8], suffix: &[u8]) -> bool
     requires { (40 ≤ length p.now) × LongLies (length p.now) (header_of p.now).lower × LongLies (length p.now) (header_of p.now).upper }
     ensures { result ≡ inside_by p.now (header_of p.now) suffix.now }

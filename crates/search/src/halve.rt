@@ -1,9 +1,12 @@
 // Halving over the slots.
-ghost use Rattle.std.specs.Prelude.{◌≡◌, ◌*◌, ◌≤◌, length};
-ghost use Rattle.keys.specs.Keys.{head_of};
+ghost use Rattle.std.specs.Prelude.{◌≤◌};
+ghost use Rattle.paper.specs.Page.{header_of};
 ghost use Rattle.search.specs.Slot.{Ends};
 
+use crate::page::Slots;
+use crate::seek::Window;
 use crate::slot;
+use crate::slot::Sought;
 use paper::refusal;
 use paper::refusal::Refusal;
 use std::cmp::Ordering;
@@ -16,27 +19,25 @@ pub enum Halved {
     Unmet(usize),
 }
 
-// The first slot of low..high that is not passed, as halving finds it: slots below are, and for the upper bound equal ones too;
-// 14 where a slot visited refuses. `same` is the last slot met as equal and not passed.
+// The first slot of a window that is not passed, as halving finds it: slots below are, and for the upper bound equal ones too;
+// 14 where a slot visited refuses. `same` is the last slot met as equal and not passed. `upper` stays a bool, which the paper's `turn` and
+// the contract of `bound_at` take: an enum would need a word that turns it into one in every contract.
+#[tactic(auto, using(crate::proofs::Halves::halvings), unfolding(paper::specs::Refusals::refusal_of))]
 pub(crate) fn halve(
-    p: &[u8],
-    end: u16,
-    width: u8,
-    head: u32,
-    suffix: &[u8],
-    low: usize,
-    high: usize,
+    slots: Slots<'_>,
+    sought: Sought<'_>,
+    window: Window,
     upper: bool,
 ) -> Result<Halved, Refusal>
-    requires { (16384 ≤ length p.now) × (8 * high ≤ 16256) × (low ≤ high) × (head ≡ head_of suffix.now) }
-    ensures { Ends upper width p.now end suffix.now low high result }
+    requires { (window.low ≤ window.high) × (window.high ≤ (header_of slots.page.now).count) }
+    ensures { Ends upper slots.entry.width slots.entry.page.now (header_of slots.entry.page.now).end sought.entry.suffix.now window.low window.high result }
 {
-    let mut lo = low;
-    let mut hi = high;
+    let mut lo = window.low;
+    let mut hi = window.high;
     let mut same = None;
     while lo < hi {
         let mid = lo + (hi - lo) / 2;
-        let met = slot::meet_at(p, end, width, mid, head, suffix);
+        let met = slot::meet_at(slots, mid, sought);
         let Ok(o) = met else {
             return Err(refusal::refusal_of(met));
         };
@@ -57,7 +58,7 @@ pub(crate) fn halve(
             }
         }
     }
-    if lo == high {
+    if lo == window.high {
         return Ok(Halved::Unmet(lo));
     }
     if same == Some(lo) {

@@ -6,6 +6,7 @@ pub mod compare;
 pub mod fence;
 pub mod find;
 mod halve;
+mod page;
 pub mod probe;
 mod seek;
 mod slot;

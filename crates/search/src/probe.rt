@@ -10,6 +10,7 @@ use octets::number;
 use std::cmp::Ordering;
 
 // Where the probe stands to the page's prefix: 0 before it, 1 within it, 2 after it.
+#[tactic(auto, using(crate::proofs::Classes::classes))]
 pub fn class(p: &[u8], prefix_len: u16, probe: &[u8]) -> u8
     requires { (16384 ≤ length p.now) × (prefix_len ≤ 16256) }
     ensures { result ≡ class_number (class_by p.now prefix_len probe.now) }
@@ -23,6 +24,7 @@ pub fn class(p: &[u8], prefix_len: u16, probe: &[u8]) -> u8
 }
 
 // Whether the probe begins with the page's prefix: class 1 and no other.
+#[tactic(auto, using(crate::proofs::Classes::within))]
 pub fn within(p: &[u8], prefix_len: u16, probe: &[u8]) -> bool
     requires { (16384 ≤ length p.now) × (prefix_len ≤ 16256) }
     ensures { result ≡ eqb (class_number (class_by p.now prefix_len probe.now)) 1 }
@@ -34,6 +36,7 @@ pub fn within(p: &[u8], prefix_len: u16, probe: &[u8]) -> bool
 }
 
 // The class as a number.
+#[tactic(auto, unfolding(crate::specs::Probe::class_number))]
 fn number_of(o: Ordering) -> u8
     ensures { result ≡ class_number o }
 {
@@ -45,6 +48,7 @@ fn number_of(o: Ordering) -> u8
 }
 
 // The probe without the page's prefix: part of the probe, never of the page. Empty where the probe is shorter.
+#[tactic(auto, using(crate::proofs::Classes::suffixes))]
 pub fn suffix<'p, 'k>(p: &'p [u8], probe: &'k [u8]) -> &'k [u8]
     requires { 48 ≤ length p.now }
     ensures { result.now ≡ probe_suffix (frame_of p.now) probe.now }

@@ -1,23 +1,18 @@
 -- The map of bytes: a number that reads 0 has only free bytes, a number of marks marks its bytes; and pieces that were all entered are disjoint. Assumes nothing.
-use mathlib.Core.Path.{◌≡◌, refl, sym, ◌∙◌}
-use mathlib.Core.Bool.{true, ◌&&◌}
-use mathlib.Core.List.{List, [], ◌∷◌}
-use Prim.Native.Nat.{ℕ, zero, suc, ◌+◌, ◌-◌, ◌/◌, ◌≤◌, ◌<◌, min, max}
+use Rattle.std.proofs.Common.{◌≡◌, refl, sym, ap, ◌∙◌, true, List, ℕ, zero, suc, ◌+◌, ◌-◌, ◌*◌, ◌%◌, ◌^◌, ◌≤◌, ◌<◌, min, max, arith, le-leb, length, get_or, replicate, mul_assoc, mul_right_comm, add-mul, zero-mul, mod-eq_of_lt, mul-lt-mul_of_pos_right, pow_pos, ltb-true, ltb}
 use native.Mathlib.Decide.{dec_lt, dec_le}
-use native.Mathlib.Omega.{arith}
-use borrow.Author.Tests.{le-leb, ltb-true, eqb-true}
-use lib.Dec.{ltb, eqb}
-use lib.ListN.{length, get_or, set, replicate, length-replicate, length-set}
-use Rattle.octets.specs.Bytes.{le, bytes, put}
-use Rattle.octets.proofs.Put.{length-put, put_below, put-above, put-inside}
-use Rattle.octets.proofs.Little.{length-bytes}
-use Rattle.paper.specs.Lists.{all}
+use lib.ListN.{length-replicate}
+use native.Mathlib.Nat.{pow-succ', add-mul-mod_self_left, eq_of_mul-eq-mul_right}
+use Rattle.octets.proofs.Little.{le-lt, length-bytes}
+use Rattle.octets.specs.Bytes.{IsBytes, le, bytes, put}
 use Rattle.paper.specs.Verdicts.{Piece, apart}
 use Rattle.paper.specs.declared.page.Header.{Header}
-use Rattle.paper.proofs.Lists.{both_parts, all-at}
 use Rattle.verdict.specs.Pieces.{piece_at}
-use Rattle.verdict.specs.Marks.{disjoint_to, Free, Marked, Entered}
+use Rattle.verdict.specs.Marks.{disjoint_to, Free, Entered, Marked}
 use Rattle.verdict.proofs.Overlaps.{Clear, AllClear, all_none, all_more, clear-to}
+use Rattle.octets.proofs.Put.{length-put, put_below, put-above, put-inside}
+use Rattle.paper.specs.Lists.{all}
+use Rattle.paper.proofs.Lists.{all-at}
 
 -- ---- free bytes
 word-free : (n : ℕ) (m : List ℕ) (o : ℕ) → le n m o ≡ 0 → (k : ℕ) → o ≤ k → k < o + n → get_or m k 0 ≡ 0
@@ -28,9 +23,6 @@ word-free (suc n) m o e k a b = go (dec_le k o) (word-free n m (suc o) (omega ar
     go : Dec (k ≤ o) → (suc o ≤ k → k < suc o + n → get_or m k 0 ≡ 0) → get_or m k 0 ≡ 0
     go (yes q) next = let g : k ≡ o = omega arith in rw g (omega arith)
     go (no q) next = next (omega arith) (omega arith)
-
-pub free-none : (m : List ℕ) (a : ℕ) → Free m a a
-free-none m a = record { none = λ k l u. absurd (omega arith) }
 
 -- free up to k; the n bytes from i on, where i ≤ k, read x
 pub free-word : (n : ℕ) (m : List ℕ) (a k i x : ℕ) → Free m a k → i ≤ k → x ≡ le n m i → x ≡ 0 → Free m a (i + n)
@@ -43,27 +35,45 @@ free-word n m a k i x f l e z = record { none = λ q b c. go q b c (dec_lt q k) 
 pub free_upto : (m : List ℕ) (a b k : ℕ) → Free m a k → b ≤ k → Free m a b
 free_upto m a b k f l = record { none = λ q u v. f.none q u (omega arith) }
 
--- one to three bytes: the first, the middle and the last
-pub free_few : (m : List ℕ) (a b : ℕ) → b ≤ a + 3 → (eqb (get_or m a 0) 0 && eqb (get_or m (a + (b - a) / 2) 0) 0) && eqb (get_or m (b - 1) 0) 0 ≡ true → Free m a b
-free_few m a b l e = record { none = λ q u v. go q u v (dec_lt a q) (dec_lt (q + 1) b) }
-  where
-    two : (eqb (get_or m a 0) 0 && eqb (get_or m (a + (b - a) / 2) 0) 0 ≡ true) × (eqb (get_or m (b - 1) 0) 0 ≡ true)
-    two = both_parts (eqb (get_or m a 0) 0 && eqb (get_or m (a + (b - a) / 2) 0) 0) (eqb (get_or m (b - 1) 0) 0) e
+-- the n lowest bytes of a number of n + j bytes
+le-split : (n j : ℕ) (m : List ℕ) (o : ℕ) → le (n + j) m o ≡ le n m o + 256 ^ n * le j m (o + n)
+unfolding le
+le-split zero j m o = let e : 0 + j ≡ j = omega arith in let z : o + 0 ≡ o = omega arith in rw (e, z) (omega arith)
+le-split (suc n) j m o =
+    let e : suc n + j ≡ suc (n + j) = omega arith in
+    let z : o + suc n ≡ suc o + n = omega arith in
+    let next = le-split n j m (suc o) in
+    let q : 256 ^ suc n * le j m (suc o + n) ≡ 256 * (256 ^ n * le j m (suc o + n)) = rw (pow-succ' 256 n) (mul_assoc 256 (256 ^ n) (le j m (suc o + n))) in
+    rw (e, z) (omega arith)
 
-    one : (eqb (get_or m a 0) 0 ≡ true) × (eqb (get_or m (a + (b - a) / 2) 0) 0 ≡ true)
-    one = both_parts (eqb (get_or m a 0) 0) (eqb (get_or m (a + (b - a) / 2) 0) 0) two.0
+-- a shift that leaves the n lowest bytes
+shifted : (n : ℕ) → 0 < n → n ≤ 8 → 256 ^ n * 2 ^ (64 - 8 * n) ≡ 18446744073709551616
+shifted zero k l = absurd (omega arith)
+shifted (suc zero) k l = refl
+shifted (suc (suc zero)) k l = refl
+shifted (suc (suc (suc zero))) k l = refl
+shifted (suc (suc (suc (suc zero)))) k l = refl
+shifted (suc (suc (suc (suc (suc zero))))) k l = refl
+shifted (suc (suc (suc (suc (suc (suc zero)))))) k l = refl
+shifted (suc (suc (suc (suc (suc (suc (suc zero))))))) k l = refl
+shifted (suc (suc (suc (suc (suc (suc (suc (suc zero)))))))) k l = refl
+shifted (suc (suc (suc (suc (suc (suc (suc (suc (suc n))))))))) k l = absurd (omega arith)
 
-    go : (q : ℕ) → a ≤ q → q < b → Dec (a < q) → Dec (q + 1 < b) → get_or m q 0 ≡ 0
-    go q u v (no f) g = let k : q ≡ a = omega arith in rw k (eqb-true (get_or m a 0) 0 one.0)
-    go q u v (yes f) (no g) = let k : q ≡ b - 1 = omega arith in rw k (eqb-true (get_or m (b - 1) 0) 0 two.1)
-    go q u v (yes f) (yes g) = let k : q ≡ a + (b - a) / 2 = omega arith in rw k (eqb-true (get_or m (a + (b - a) / 2) 0) 0 one.1)
+-- a number l + P * r, of which a factor c moves the second part out of W = P * c
+cut_off : (P c W l r : ℕ) → P * c ≡ W → l < P → 0 < c → ((l + P * r) * c) % W ≡ 0 → l ≡ 0
+cut_off P c W l r e k z q =
+    let apart : (l + P * r) * c ≡ l * c + W * r = add-mul l (P * r) c ∙ ap (λ t. l * c + t) (mul_right_comm P r c ∙ rw e) in
+    let less : l * c < W = rw (← e) (mul-lt-mul_of_pos_right k z) in
+    let none : l * c ≡ 0 = sym (mod-eq_of_lt less) ∙ sym (add-mul-mod_self_left (l * c) W r) ∙ rw apart at q in
+    eq_of_mul-eq-mul_right c z l 0 (none ∙ sym (zero-mul c))
 
--- two numbers of four bytes that reach from a to b
-pub free_halves : (m : List ℕ) (a b x y : ℕ) → a + 4 ≤ b → b ≤ a + 8 → x ≡ le 4 m a → y ≡ le 4 m (b - 4) → eqb x 0 && eqb y 0 ≡ true → Free m a b
-free_halves m a b x y l u e f t =
-    let s = both_parts (eqb x 0) (eqb y 0) t in
-    let first = free-word 4 m a a a x (free-none m a) (omega arith) e (eqb-true x 0 s.0) in
-    free_upto m a b (b - 4 + 4) (free-word 4 m a (a + 4) (b - 4) y first (omega arith) f (eqb-true y 0 s.1)) (omega arith)
+-- free up to k; of the number at k the n lowest bytes are 0
+pub free_left : (m : List ℕ) (a k n x : ℕ) → IsBytes m → Free m a k → 0 < n → n ≤ 8 → x ≡ le 8 m k → (x * 2 ^ (64 - 8 * n)) % 18446744073709551616 ≡ 0 → Free m a (k + n)
+free_left m a k n x bytes f z l e r =
+    let j : n + (8 - n) ≡ 8 = omega arith in
+    let split : x ≡ le n m k + 256 ^ n * le (8 - n) m (k + n) = e ∙ rw j at (le-split n (8 - n) m k) in
+    let none = cut_off (256 ^ n) (2 ^ (64 - 8 * n)) 18446744073709551616 (le n m k) (le (8 - n) m (k + n)) (shifted n z l) (le-lt n m k bytes) (pow_pos (64 - 8 * n)) (rw split at r) in
+    free-word n m a k k (le n m k) f (omega arith) refl none
 
 -- ---- marked bytes
 pub marked-none : (m : List ℕ) (a : ℕ) → Marked m m a a
@@ -99,32 +109,13 @@ four_marks : Marks 4 16843009
 unfolding bytes all
 four_marks = record { above = refl }
 
-pub eight_marks : Marks 8 578437695752307201
-unfolding bytes all
-eight_marks = record { above = refl }
-
 pub marked-word : (n v : ℕ) → Marks n v → (m₀ m after : List ℕ) (a k i : ℕ) → Marked m₀ m a k → i ≤ k → i + n ≤ length m → after ≡ put m i (bytes n v) → Marked m₀ after a (i + n)
 marked-word n v o m₀ m after a k i M l r e =
     let s = length-bytes n v in
     rw e (rw s at (marked-run m₀ m a k i (bytes n v) o.above M l (rw s r)))
 
-marked_byte : (m₀ m : List ℕ) (a k i : ℕ) → Marked m₀ m a k → i ≤ k → i < length m → Marked m₀ (set m i 1) a (i + 1)
-unfolding put all
-marked_byte m₀ m a k i M l r = marked-run m₀ m a k i (1 ∷ []) refl M l (omega arith)
-
 pub marked_upto : (m after : List ℕ) (a b k : ℕ) → Marked m after a k → b ≤ k → Marked m after a b
 marked_upto m after a b k M l = record { inside = λ q u v. M.inside q u (omega arith); kept = M.kept }
-
--- one to three bytes: the first, the middle and the last
-pub marked_few : (m : List ℕ) (a b : ℕ) → a < b → b ≤ a + 3 → b ≤ length m → Marked m (set (set (set m a 1) (a + (b - a) / 2) 1) (b - 1) 1) a b
-marked_few m a b l u r =
-    let one = set m a 1 in
-    let two = set one (a + (b - a) / 2) 1 in
-    let s : length one ≡ length m = length-set m a 1 in
-    let t : length two ≡ length m = length-set one (a + (b - a) / 2) 1 ∙ s in
-    let first = marked_byte m m a a a (marked-none m a) (omega arith) (omega arith) in
-    let second = marked_byte m one a (a + 1) (a + (b - a) / 2) first (omega arith) (omega (arith, s)) in
-    marked_upto m (set two (b - 1) 1) a b (b - 1 + 1) (marked_byte m two a (a + (b - a) / 2 + 1) (b - 1) second (omega arith) (omega (arith, t))) (omega arith)
 
 -- two numbers of four marks that reach from a to b
 pub marked_halves : (m mid after : List ℕ) (a b : ℕ) → a + 4 ≤ b → b ≤ a + 8 → b ≤ length m → mid ≡ put m a (bytes 4 16843009) → after ≡ put mid (b - 4) (bytes 4 16843009)
@@ -133,10 +124,6 @@ marked_halves m mid after a b l u r e f =
     let same : length mid ≡ length m = rw e (length-put m a (bytes 4 16843009)) in
     let first = marked-word 4 16843009 four_marks m m mid a a a (marked-none m a) (omega arith) (omega arith) e in
     marked_upto m after a b (b - 4 + 4) (marked-word 4 16843009 four_marks m mid after a (a + 4) (b - 4) first (omega arith) (omega (arith, same)) f) (omega arith)
-
--- ---- entered
-pub entered_none : (m : List ℕ) (a b : ℕ) → b ≤ a → Entered m m a b
-entered_none m a b l = record { free = record { none = λ k u v. absurd (omega arith) }; marked = record { inside = λ k u v. absurd (omega arith); kept = λ k e. e } }
 
 pub long : (n : ℕ) → length (replicate {A = ℕ} n 0) ≡ n
 long n = length-replicate n 0

@@ -1,22 +1,15 @@
 -- The verdicts by the page's own header are the paper's; a page that is fit as a caller finds it: what is known of it, and how a call with these tests
 -- goes on or is refused alike. Assumes nothing.
-use mathlib.Core.Path.{◌≡◌, refl, sym, ap, ◌∙◌}
-use mathlib.Core.Bool.{Bool, true, false, not}
-use mathlib.Core.List.{List}
-use Prim.Native.Nat.{ℕ, ◌≤◌}
-use native.Mathlib.Omega.{arith}
-use borrow.Author.Tests.{eqb-true, eq-eqb, ne_eqb, leb-true, le-leb}
-use lib.Dec.{leb, eqb}
-use lib.ListN.{length}
+use Rattle.std.proofs.Common.{◌≡◌, refl, sym, ◌∙◌, Bool, true, false, not, List, ℕ, ◌≤◌, arith, eqb-true, eq-eqb, ne_eqb, leb-true, le-leb, leb, eqb, length, None, Some, Ok, Err}
 use Rattle.keys.specs.Choice.{both}
 use Rattle.paper.specs.Lists.{every, all}
-use Rattle.paper.specs.Page.{View, view_of, header_of}
+use Rattle.paper.specs.Page.{view_of, header_of}
 use Rattle.paper.specs.Verdicts.{header_rules, fit_view, fit_of, empty_leaf, layout_view, layout_of}
 use Rattle.paper.specs.Refusals.{judge}
 use Rattle.paper.specs.Calls.{is_width}
 use Rattle.paper.specs.declared.page.Header.{Header}
 use Rattle.paper.specs.declared.refusal.Refusal.{Refusal}
-use Rattle.paper.specs.declared.refusal.Refusal.TheVariants.{Width, NotFit}
+use Rattle.paper.specs.declared.refusal.Refusal.TheVariants.{NotFit}
 use Rattle.paper.proofs.Lists.{both_parts}
 use Rattle.paper.proofs.Fit.{Fit, fit}
 use Rattle.paper.proofs.Holding.{Hold, judge_hold, answer_holds, refused-judge}
@@ -24,10 +17,12 @@ use Rattle.node.specs.Header.{rules_of}
 use Rattle.node.proofs.Rules.{rules_of_lem}
 use Rattle.verdict.specs.Pieces.{held_with, disjoint_with}
 use Rattle.verdict.specs.Tally.{tally_of, fences_rise_with}
+use Rattle.verdict.specs.Weighed.{broken_with}
+use Rattle.verdict.proofs.Fitting.{broken_number, broken-above}
+use Rattle.std.specs.Option.{unwrap_or}
 use Rattle.verdict.specs.Fits.{fit_with, empty_leaf_with, order_with, layout_with, fit_checks, fit_header_of, fit_admit_of}
 use Rattle.verdict.proofs.Pieced.{u2_is, u3_is}
 use Rattle.verdict.proofs.Judged.{u4-is, u5-is, u6-is, u7-is, u8_is, u9-is, rise-is}
-use Rattle.std.specs.Prelude.{Ok, Err}
 
 module _ (w : ℕ) (p : List ℕ) where
   u1-is : header_rules (view_of w p).frame (view_of w p).numbers ≡ rules_of (header_of p)
@@ -55,18 +50,22 @@ module _ (w : ℕ) (p : List ℕ) where
       go a b c d true = refl
       go a b c d false = refl
 
-  -- ---- the header of a page that is fit; u is what the verdict said of the page
-  module _ (u : ℕ) (v : u ≡ fit_with w p (header_of p)) where
-    pub found : u ≡ fit_of w p
-    found = v ∙ sym fit_is
+  -- ---- the header of a page that is fit, by the first rule broken
+  pub found : unwrap_or (broken_with w p (header_of p)) 0 ≡ fit_of w p
+  found = broken_number w p (header_of p) ∙ sym fit_is
 
-    pub unfit-header : (u ≡ 0 → ⊥) → fit_header_of w p ≡ Err (NotFit u)
-    unfolding fit_header_of judge
-    unfit-header k = rw (← found, ne_eqb u 0 k)
+  pub unfit-header : (u : ℕ) → broken_with w p (header_of p) ≡ Some u → Err (NotFit u) ≡ fit_header_of w p
+  unfolding fit_header_of judge
+  unfit-header u e =
+      let f : fit_of w p ≡ u = sym found ∙ rw e in
+      let above = broken-above w p (header_of p) u e in
+      rw (f, ne_eqb u 0 (λ k. omega arith))
 
-    pub fit-header : (h : Header) → h ≡ header_of p → u ≡ 0 → fit_header_of w p ≡ Ok h
-    unfolding fit_header_of judge
-    fit-header h e k = rw (← found, eq-eqb u 0 k, ← e)
+  pub fit-header : (h : Header) → h ≡ header_of p → broken_with w p (header_of p) ≡ None → Ok h ≡ fit_header_of w p
+  unfolding fit_header_of judge
+  fit-header h e k =
+      let f : fit_of w p ≡ 0 = sym found ∙ rw k in
+      rw (f, ← e)
 
   -- ---- 1, 2, 3, 5; n is the key's length
   module _ (n : ℕ) where

@@ -1,91 +1,102 @@
 -- The ways out of both verdicts by a header. Assumes nothing.
-use mathlib.Core.Path.{◌≡◌, refl, sym, ◌∙◌}
-use mathlib.Core.Bool.{Bool, true, false, not}
-use mathlib.Core.List.{List}
-use Prim.Native.Nat.{ℕ}
-use borrow.Author.Tests.{not-true, not-false}
-use Rattle.keys.specs.Choice.{both}
+use Rattle.std.proofs.Common.{◌≡◌, refl, Bool, true, false, List, [], ◌∷◌, ℕ, ◌<◌, arith, Option, Some, Result, Ok, Err}
+use Rattle.std.specs.Option.{unwrap_or}
+use Rattle.keys.specs.Choice.{pick, both}
 use Rattle.paper.specs.Lists.{every}
-use Rattle.paper.specs.Verdicts.{first_broken}
 use Rattle.paper.specs.declared.page.Header.{Header}
 use Rattle.node.specs.Header.{rules_of}
 use Rattle.verdict.specs.Pieces.{held_with, disjoint_with}
-use Rattle.verdict.specs.Tally.{tally_of, fences_rise_with}
-use Rattle.verdict.specs.Fits.{key_rules, keys_with, fit_with, empty_leaf_with, order_with, layout_with}
+use Rattle.verdict.specs.Tally.{tally_of, fences_rise_with, fences_faithful_with, fences_fit_with, effective_with, hints_fresh_with}
+use Rattle.verdict.specs.Fits.{key_rules, fit_with, empty_leaf_with, order_with, layout_with}
+use Rattle.verdict.specs.Weighed.{weighed_with, first_rule, broken_with}
 use Rattle.verdict.specs.declared.tally.Tally.{Tally}
-use Rattle.verdict.proofs.Broken.{broken, kept}
-
--- a test that was passed, x being what it answered
-pub passes : (x y : Bool) → x ≡ y → not x ≡ false → y ≡ true
-passes x y e h = sym e ∙ not-false x h
-
--- what is said of a header that was read is said of the page's own
-pub fit_at : (w : ℕ) (p : List ℕ) (h k : Header) (u : ℕ) → h ≡ k → u ≡ fit_with w p h → u ≡ fit_with w p k
-fit_at w p h k u e v = rw e at v
+use Rattle.verdict.proofs.Broken.{first_number, first_above}
 
 module _ (w : ℕ) (p : List ℕ) (h : Header) where
   abbrev tally : Tally
   tally = tally_of w p h h.count
 
-  pub keys_with_lem : (t : Tally) → t ≡ tally → keys_with w p h ≡ first_broken 4 (key_rules p h t)
-  unfolding keys_with
-  keys_with_lem t e = rw (← e)
+  -- ---- U2, U3 and the tally
+  pub weighed-2 : held_with w p h ≡ false → Err 2 ≡ weighed_with w p h
+  unfolding weighed_with
+  weighed-2 a = rw a
 
-  -- ---- fit; x1, x2, x3 are what the tests of U1, U2 and U3 answered
-  module _ (x1 : Bool) (e1 : x1 ≡ rules_of h) where
-    pub fit-1 : not x1 ≡ true → fit_with w p h ≡ 1
-    unfolding fit_with
-    fit-1 k = rw (← e1) (broken 1 x1 _ k)
+  pub weighed-3 : held_with w p h ≡ true → disjoint_with w p h ≡ false → Err 3 ≡ weighed_with w p h
+  unfolding weighed_with
+  weighed-3 a b = rw (a, b)
 
-    module _ (x2 : Bool) (e2 : x2 ≡ held_with w p h) (k1 : not x1 ≡ false) where
-      pub fit-2 : not x2 ≡ true → fit_with w p h ≡ 2
-      unfolding fit_with
-      fit-2 k = rw (← e1, ← e2) (kept 1 x1 _ k1 ∙ broken 2 x2 _ k)
+  pub weighed-tally : held_with w p h ≡ true → disjoint_with w p h ≡ true → (t : Tally) → t ≡ tally → Ok t ≡ weighed_with w p h
+  unfolding weighed_with
+  weighed-tally a b t e = rw (a, b, e)
 
-      module _ (x3 : Bool) (e3 : x3 ≡ disjoint_with w p h) (k2 : not x2 ≡ false) where
-        pub fit-3 : not x3 ≡ true → fit_with w p h ≡ 3
-        unfolding fit_with
-        fit-3 k = rw (← e1, ← e2, ← e3) (kept 1 x1 _ k1 ∙ kept 2 x2 _ k2 ∙ broken 3 x3 _ k)
+  -- ---- fit
+  pub broken-1 : rules_of h ≡ false → Some 1 ≡ broken_with w p h
+  unfolding broken_with first_rule
+  broken-1 a = rw a
 
-        pub fit-keys : not x3 ≡ false → fit_with w p h ≡ keys_with w p h
-        unfolding fit_with keys_with
-        fit-keys k = rw (← e1, ← e2, ← e3) (kept 1 x1 _ k1 ∙ kept 2 x2 _ k2 ∙ kept 3 x3 _ k)
-
-  -- ---- layout; x0 is what the test of an empty leaf answered
-  pub order-with : (t : Tally) → t ≡ tally → (x : Bool) → x ≡ fences_rise_with p h → order_with w p h ≡ both (both x t.inside) t.rising
-  unfolding order_with every
-  order-with t e x f = rw (← e, ← f) (go x t.inside t.rising)
+  pub broken-err : rules_of h ≡ true → (r : ℕ) → weighed_with w p h ≡ Err r → Some r ≡ broken_with w p h
+  unfolding broken_with first_rule weighed_with
+  broken-err a r e = rw a (go (held_with w p h) (disjoint_with w p h) e)
     where
-      go : (a b c : Bool) → both a (both b (both c true)) ≡ both (both a b) c
-      go true true true = refl
-      go true true false = refl
-      go true false c = refl
-      go false b c = refl
+      go : (x y : Bool) → pick {A = Result Tally ℕ} x (pick {A = Result Tally ℕ} y (Ok tally) (Err 3)) (Err 2) ≡ Err r → Some r ≡ pick {A = Option ℕ} x (pick {A = Option ℕ} y (first_rule 4 (key_rules p h tally)) (Some 3)) (Some 2)
+      go true true f = absurd (cc)
+      go true false f = cc
+      go false y f = cc
 
-  module _ (x1 : Bool) (e1 : x1 ≡ rules_of h) where
-    pub layout-1 : not x1 ≡ true → layout_with w p h ≡ false
-    unfolding layout_with every
-    layout-1 k = rw (← e1, not-true x1 k)
+  pub broken-ok : rules_of h ≡ true → (t : Tally) → weighed_with w p h ≡ Ok t → first_rule 4 (key_rules p h t) ≡ broken_with w p h
+  unfolding broken_with first_rule weighed_with
+  broken-ok a t e = rw a (go (held_with w p h) (disjoint_with w p h) e)
+    where
+      go : (x y : Bool) → pick {A = Result Tally ℕ} x (pick {A = Result Tally ℕ} y (Ok tally) (Err 3)) (Err 2) ≡ Ok t → first_rule 4 (key_rules p h t) ≡ pick {A = Option ℕ} x (pick {A = Option ℕ} y (first_rule 4 (key_rules p h tally)) (Some 3)) (Some 2)
+      go true true f = let q : tally ≡ t = cc in rw q
+      go true false f = absurd (cc)
+      go false y f = absurd (cc)
 
-    module _ (x0 : Bool) (e0 : x0 ≡ empty_leaf_with h) (k1 : not x1 ≡ false) where
-      pub layout-0 : x0 ≡ true → layout_with w p h ≡ false
-      unfolding layout_with every
-      layout-0 k = rw (← e1, ← e0, k, not-false x1 k1)
+  -- U4 to U9 as code tested them
+  pub keys_tested : (t : Tally) (faithful fences effective hints : Bool) → faithful ≡ fences_faithful_with p h → fences ≡ fences_fit_with p h
+      → effective ≡ effective_with h t.needs → hints ≡ hints_fresh_with p h
+      → first_rule 4 (both faithful t.faithful ∷ fences ∷ t.inside ∷ t.rising ∷ effective ∷ hints ∷ []) ≡ first_rule 4 (key_rules p h t)
+  keys_tested t a b c d ea eb ec ed = rw (ea, eb, ec, ed)
 
-      module _ (x2 : Bool) (e2 : x2 ≡ held_with w p h) (k0 : x0 ≡ false) where
-        pub layout-2 : not x2 ≡ true → layout_with w p h ≡ false
-        unfolding layout_with every
-        layout-2 k = rw (← e1, ← e0, ← e2, k0, not-false x1 k1, not-true x2 k)
+  pub broken_number : unwrap_or (broken_with w p h) 0 ≡ fit_with w p h
+  unfolding broken_with fit_with
+  broken_number = first_number 1 _
 
-        module _ (x3 : Bool) (e3 : x3 ≡ disjoint_with w p h) (k2 : not x2 ≡ false) where
-          pub layout-3 : not x3 ≡ true → layout_with w p h ≡ false
-          unfolding layout_with every
-          layout-3 k = rw (← e1, ← e0, ← e2, ← e3, k0, not-false x1 k1, not-false x2 k2, not-true x3 k)
+  pub broken-above : (r : ℕ) → broken_with w p h ≡ Some r → 0 < r
+  unfolding broken_with
+  broken-above r e = let q = first_above 1 _ r e in omega arith
 
-          pub layout-order : not x3 ≡ false → layout_with w p h ≡ order_with w p h
-          unfolding layout_with every
-          layout-order k = rw (← e1, ← e0, ← e2, ← e3, k0, not-false x1 k1, not-false x2 k2, not-false x3 k) (last (order_with w p h))
-            where
-              last : (a : Bool) → both a true ≡ a
-              last true = refl
-              last false = refl
+  -- ---- layout
+  pub layout-1 : rules_of h ≡ false → false ≡ layout_with w p h
+  unfolding layout_with every
+  layout-1 a = rw a
+
+  pub layout_leaf : rules_of h ≡ true → empty_leaf_with h ≡ true → false ≡ layout_with w p h
+  unfolding layout_with every
+  layout_leaf a b = rw (a, b)
+
+  pub layout-err : rules_of h ≡ true → empty_leaf_with h ≡ false → (r : ℕ) → weighed_with w p h ≡ Err r → false ≡ layout_with w p h
+  unfolding layout_with every weighed_with
+  layout-err a b r e = rw (a, b) (go (held_with w p h) (disjoint_with w p h) e)
+    where
+      go : (x y : Bool) → pick {A = Result Tally ℕ} x (pick {A = Result Tally ℕ} y (Ok tally) (Err 3)) (Err 2) ≡ Err r → false ≡ both x (both y (both (order_with w p h) true))
+      go true true f = absurd (cc)
+      go true false f = refl
+      go false y f = refl
+
+  pub layout-ok : rules_of h ≡ true → empty_leaf_with h ≡ false → (t : Tally) → weighed_with w p h ≡ Ok t → (x : Bool) → x ≡ both (both (fences_rise_with p h) t.inside) t.rising
+      → x ≡ layout_with w p h
+  unfolding layout_with order_with every weighed_with
+  layout-ok a b t e x f = rw (a, b, f) (go (held_with w p h) (disjoint_with w p h) e)
+    where
+      last : (a b c : Bool) → both (both a b) c ≡ both (both a (both b (both c true))) true
+      last true true true = refl
+      last true true false = refl
+      last true false c = refl
+      last false b c = refl
+
+      go : (x y : Bool) → pick {A = Result Tally ℕ} x (pick {A = Result Tally ℕ} y (Ok tally) (Err 3)) (Err 2) ≡ Ok t
+          → both (both (fences_rise_with p h) t.inside) t.rising ≡ both x (both y (both (both (fences_rise_with p h) (both tally.inside (both tally.rising true))) true))
+      go true true f = let q : tally ≡ t = cc in rw q (last (fences_rise_with p h) t.inside t.rising)
+      go true false f = absurd (cc)
+      go false y f = absurd (cc)

@@ -1,9 +1,6 @@
 -- With the page's own header, the rules by a header are the paper's: keys of a page share its prefix, so suffixes stand for them.
 -- Assumes nothing.
-use mathlib.Core.Path.{◌≡◌, refl, ap}
-use mathlib.Core.Bool.{Bool, true, false}
-use mathlib.Core.List.{List, ◌∷◌, ◌++◌, map}
-use Prim.Native.Nat.{ℕ, zero, suc, ◌+◌, ◌*◌, ◌≤◌}
+use Rattle.std.proofs.Common.{◌≡◌, refl, ap, Bool, true, false, List, ◌∷◌, ◌++◌, map, ℕ, zero, suc, ◌+◌, ◌*◌, ◌≤◌}
 use Rattle.keys.specs.Choice.{pick, both}
 use Rattle.keys.specs.Keys.{same_list}
 use Rattle.keys.proofs.Orders.{order-append}

@@ -1,12 +1,7 @@
 -- U3 pair by pair: two pieces overlap where the later start lies before the earlier end. Assumes nothing.
-use mathlib.Core.Path.{◌≡◌, refl, sym, ◌∙◌}
-use mathlib.Core.Bool.{Bool, true, false, not, ◌&&◌}
-use mathlib.Core.List.{List}
-use Prim.Native.Nat.{ℕ, ◌+◌, ◌≤◌, ◌<◌, min, max}
+use Rattle.std.proofs.Common.{◌≡◌, refl, sym, ◌∙◌, Bool, true, false, List, ℕ, ◌+◌, ◌≤◌, ◌<◌, min, max, arith, le-leb, ltb-true, ltb-false, ltb}
 use native.Mathlib.Decide.{dec_lt}
-use native.Mathlib.Omega.{arith}
-use borrow.Author.Tests.{lt-ltb, le-ltb, lt-leb, le-leb, ltb-true, ltb-false}
-use lib.Dec.{ltb}
+use borrow.Author.Tests.{lt-leb}
 use Rattle.paper.specs.Lists.{tab}
 use Rattle.paper.specs.Verdicts.{Piece, apart}
 use Rattle.paper.specs.declared.page.Header.{Header}
@@ -16,17 +11,6 @@ use Rattle.verdict.specs.Pieces.{piece_at, disjoint_with}
 use Rattle.verdict.specs.Marks.{disjoint_to}
 
 -- ---- two pieces
--- a..b and c..d overlap by four tests
-pub four_tests : (a b c d : ℕ) → (ltb a b && ltb c d) && (ltb a d && ltb c b) ≡ ltb (max a c) (min b d)
-four_tests a b c d = go (dec_lt a b) (dec_lt c d) (dec_lt a d) (dec_lt c b)
-  where
-    go : Dec (a < b) → Dec (c < d) → Dec (a < d) → Dec (c < b) → (ltb a b && ltb c d) && (ltb a d && ltb c b) ≡ ltb (max a c) (min b d)
-    go (yes e) (yes f) (yes g) (yes h) = rw (lt-ltb a b e, lt-ltb c d f, lt-ltb a d g, lt-ltb c b h, lt-ltb (max a c) (min b d) (omega arith))
-    go (yes e) (yes f) (yes g) (no h) = rw (lt-ltb a b e, lt-ltb c d f, lt-ltb a d g, le-ltb c b (omega arith), le-ltb (max a c) (min b d) (omega arith))
-    go (yes e) (yes f) (no g) h = rw (lt-ltb a b e, lt-ltb c d f, le-ltb a d (omega arith), le-ltb (max a c) (min b d) (omega arith))
-    go (yes e) (no f) g h = rw (lt-ltb a b e, le-ltb c d (omega arith), le-ltb (max a c) (min b d) (omega arith))
-    go (no e) f g h = rw (le-ltb a b (omega arith), le-ltb (max a c) (min b d) (omega arith))
-
 -- the numbers of two pieces tell whether they are apart
 module _ (x y : Piece) (xl xh yl yh : ℕ) (a : xl ≡ x.lo) (b : xh ≡ x.hi) (c : yl ≡ y.lo) (d : yh ≡ y.hi) where
   touch-no : ltb (max xl yl) (min xh yh) ≡ false → apart x y ≡ true
@@ -45,9 +29,6 @@ module _ (w : ℕ) (p : List ℕ) (h : Header) where
   -- piece j is apart from the first n
   abbrev pub Clear : ℕ → ℕ → Type 0
   Clear j n = (i : ℕ) → i < n → Apart i j
-
-  pub clear_none : (j : ℕ) → Clear j 0
-  clear_none j i l = absurd (omega arith)
 
   -- the numbers of piece i, and those of piece j
   abbrev pub Is : ℕ → ℕ → ℕ → Type 0
@@ -102,7 +83,3 @@ module _ (w : ℕ) (p : List ℕ) (h : Header) where
           never true refl
           (sym (to_clear (h.count + 3) (sym to-all ∙ q) j b i l) ∙ touch-yes (piece_at w p h i) (piece_at w p h j) xl xh yl yh x.0 x.1 y.0 y.1 e)
       go false q = refl
-
-pub not-not : (b : Bool) → not (not b) ≡ b
-not-not true = refl
-not-not false = refl

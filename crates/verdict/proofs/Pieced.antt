@@ -1,13 +1,7 @@
 -- U2 and the pieces by a header: what a turn of the loop over slots says, which piece stands at a place, and that with the page's own header they are
 -- the paper's. Assumes nothing.
-use mathlib.Core.Path.{◌≡◌, refl, sym, ap, ◌∙◌}
-use mathlib.Core.Bool.{Bool, true, false}
-use mathlib.Core.List.{List, [], ◌∷◌, ◌++◌, map}
-use Prim.Native.Nat.{ℕ, zero, suc, ◌+◌, ◌*◌, ◌≤◌, ◌<◌}
+use Rattle.std.proofs.Common.{◌≡◌, refl, sym, ap, ◌∙◌, Bool, true, false, List, [], ◌∷◌, ◌++◌, map, ℕ, zero, suc, ◌+◌, ◌*◌, ◌≤◌, ◌<◌, zero-add, arith, lt-ltb, le-ltb, eq-eqb, ne_eqb, Ok, Err}
 use native.Mathlib.Decide.{dec_lt, dec_le}
-use native.Mathlib.Nat.{zero-add}
-use native.Mathlib.Omega.{arith}
-use borrow.Author.Tests.{lt-ltb, le-ltb, eq-eqb, ne_eqb}
 use Rattle.keys.specs.Choice.{pick}
 use Rattle.paper.specs.Lists.{tab, all, pairs}
 use Rattle.paper.specs.Page.{slot_at, place, slot_of, row_of, frame_of, numbers_of, header_of, view_of, body_bytes}
@@ -25,7 +19,6 @@ use Rattle.node.specs.Admit.{slot_checks, slot_read_of}
 use Rattle.node.proofs.Rules.{rules_in}
 use Rattle.node.proofs.Admits.{slot-judge, slot-refused}
 use Rattle.verdict.specs.Pieces.{held_with, piece_at, disjoint_with}
-use Rattle.std.specs.Prelude.{Ok, Err}
 
 -- ---- a table and its elements
 module _ {A : Type 0} where

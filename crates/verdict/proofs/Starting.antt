@@ -1,48 +1,9 @@
 -- The map of starts: a start that is entered, what no start within a piece means, and pieces apart that start in cells of their own, none within
 -- another: the one that starts in the earlier cell ends before the other starts. Assumes nothing.
-use mathlib.Core.Path.{◌≡◌, refl, ◌∙◌}
-use mathlib.Core.Bool.{true, ◌||◌}
-use mathlib.Core.List.{List}
-use Prim.Native.Nat.{ℕ, ◌+◌, ◌-◌, ◌/◌, ◌%◌, ◌≤◌, ◌<◌, min, max}
+use Rattle.std.proofs.Common.{◌≡◌, ◌∙◌, true, List, ℕ, ◌+◌, ◌-◌, ◌%◌, ◌≤◌, ◌<◌, min, max, arith, le-leb, get_or}
 use native.Mathlib.Decide.{dec_lt, dec_le}
-use native.Mathlib.Omega.{arith}
-use borrow.Author.Tests.{le-leb, ltb-true, ne_eqb}
-use lib.Dec.{ltb, eqb}
-use lib.ListN.{length, get_or, set}
-use lib.Seq.{get_or-set_same, get_or-set_other}
 use Rattle.paper.specs.Verdicts.{Piece, apart}
-use Rattle.verdict.specs.Marks.{Free}
 use Rattle.verdict.specs.Starts.{cell, mark, Begun, Lone, Starts}
-
--- ---- a start is entered
-pub begun-none : (m : List ℕ) (o lo hi : ℕ) → hi ≤ lo → Begun m m o lo hi
-begun-none m o lo hi l = record { free = λ q. absurd (omega arith); here = λ q. absurd (omega arith); kept = λ k e. refl }
-
-pub begun-here : (m : List ℕ) (o lo hi : ℕ) → cell o lo < length m → get_or m (cell o lo) 0 ≡ 0 → Begun m (set m (cell o lo) (mark o lo)) o lo hi
-begun-here m o lo hi l e =
-    record {
-      free = λ q. e;
-      here = λ q. get_or-set_same m (cell o lo) (mark o lo) 0 l;
-      kept = λ k f. get_or-set_other m (cell o lo) k (mark o lo) 0 (other k f);
-    }
-  where
-    other : (k : ℕ) → 0 < get_or m k 0 → k ≡ cell o lo → ⊥
-    other k f g = let z : get_or m k 0 ≡ 0 = rw g e in omega arith
-
--- ---- no start within a piece
-pub lone_short : (m : List ℕ) (lo hi : ℕ) → hi / 8 ≤ lo / 8 → Lone m lo hi
-lone_short m lo hi l = record { between = λ k a b. absurd (omega arith); last = λ a. absurd (omega arith) }
-
-pub lone_long : (m : List ℕ) (lo hi : ℕ) → Free m (lo / 8 + 1) (hi / 8) → (eqb (get_or m (hi / 8) 0) 0 || ltb (hi % 8) (get_or m (hi / 8) 0)) ≡ true → Lone m lo hi
-lone_long m lo hi f e =
-    record {
-      between = λ k a b. f.none k (omega arith) b;
-      last = λ a l. ltb-true (hi % 8) (get_or m (hi / 8) 0) (rw (ne_eqb (get_or m (hi / 8) 0) 0 (λ q. omega arith)) at e);
-    }
-
--- the bytes lo..hi, counted from the origin o on, by where they start and how many they are
-pub lone_same : (m : List ℕ) (o lo hi : ℕ) → o ≤ lo → lo ≤ hi → Lone m (lo - o) (lo - o + (hi - lo)) → Lone m (lo - o) (hi - o)
-lone_same m o lo hi a b L = let e : lo - o + (hi - lo) ≡ hi - o = omega arith in rw e at L
 
 -- ---- the starts of the first pieces
 module _ (f : ℕ → Piece) (o : ℕ) where
@@ -78,9 +39,6 @@ module _ (f : ℕ → Piece) (o : ℕ) where
   pub starts_more : (n : ℕ) (m after : List ℕ) (lo hi : ℕ) → Starts f o n m → (lo ≡ (f n).lo) × (hi ≡ (f n).hi) → (lo < hi → o ≤ lo) → Begun m after o lo hi
       → Starts f o (n + 1) after
   starts_more n m after lo hi S e l B = starts-next n m after S (rw (e.0, e.1) at l) (rw (e.0, e.1) at B)
-
-  pub starts-done : (i n : ℕ) (m : List ℕ) → i ≤ n → n ≤ i → Starts f o i m → Starts f o n m
-  starts-done i n m a b S = let q : n ≡ i = omega arith in rw q S
 
   -- ---- pieces that are apart
   module _ (n : ℕ) (m : List ℕ) (S : Starts f o n m) (L : (k : ℕ) → k < n → (f k).lo < (f k).hi → Lone m ((f k).lo - o) ((f k).hi - o)) where

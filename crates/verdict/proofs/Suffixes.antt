@@ -1,15 +1,8 @@
 -- Suffixes of slots: the head that a suffix has as code finds it, the slot that has this head, and which of two suffixes is below.
 -- Assumes nothing.
-use mathlib.Core.Path.{◌≡◌, refl, sym, ap, ◌∙◌}
-use mathlib.Core.Bool.{Bool, true, false, not, ◌||◌}
-use mathlib.Core.Logic.{◌⊎◌, inl, inr, ⊎_elim}
-use mathlib.Core.List.{List}
-use Prim.Native.Nat.{ℕ, ◌+◌, ◌-◌, ◌*◌, ◌/◌, ◌^◌, ◌≤◌, ◌<◌}
+use Rattle.std.proofs.Common.{◌≡◌, refl, sym, ap, ◌∙◌, Bool, true, false, not, ◌||◌, ◌⊎◌, inl, inr, ⊎_elim, List, ℕ, ◌+◌, ◌-◌, ◌*◌, ◌/◌, ◌^◌, ◌≤◌, ◌<◌, arith, lt-ltb, le-ltb, ltb-true, ltb-false, eqb-true, ltb, eqb, length, take, drop}
 use native.Mathlib.Decide.{dec_le}
-use native.Mathlib.Omega.{arith}
-use borrow.Author.Tests.{lt-ltb, le-ltb, lt-leb, ltb-true, ltb-false, eqb-true}
-use lib.Dec.{ltb, eqb}
-use lib.ListN.{length, take, drop, length-take, length-drop}
+use borrow.Author.Tests.{lt-leb}
 use Rattle.octets.specs.Bytes.{IsBytes, le, be, part, big_bytes}
 use Rattle.octets.proofs.Alike.{be-part}
 use Rattle.octets.proofs.Put.{take-bytes}
@@ -63,9 +56,6 @@ module _ (p : List ℕ) (s : Slot) where
   long-head h =
       let e : 96 + s.offset + 0 ≡ 96 + s.offset = omega arith in
       sym (rw (long-part h, be-part 4 s.len p (96 + s.offset) 0 (omega arith), e))
-
-pub head-room : (n at m : ℕ) → 4 < n → (4 < n → at + n ≤ m) → at + 4 ≤ m
-head-room n at m h k = let e = k h in omega arith
 
 -- ---- the slot with the head that its suffix has
 short_again : (n x : ℕ) → x < 256 ^ 4 → n ≤ 4 → take n (big_bytes 4 (head_of (take n (big_bytes 4 x)))) ≡ take n (big_bytes 4 x)
@@ -151,14 +141,8 @@ alike_long x n e = go (eqb x n) refl e
     go true q f = (eqb-true x n q, ltb-false n 16 f)
     go false q f = never true refl f
 
-pub honest_same : (p : List ℕ) (s t : Slot) → s ≡ t → Honest p t → Honest p s
-honest_same p s t e h = rw e h
-
 pub below_same : (p : List ℕ) (s t b : Slot) (x : Bool) → s ≡ t → x ≡ less (suffix_of p s) (suffix_of p b) → x ≡ true → less (suffix_of p t) (suffix_of p b) ≡ true
 below_same p s t b x e f r = rw (← e) (sym f ∙ r)
-
-pub part_long : (p : List ℕ) (i n : ℕ) → i + n ≤ length p → n ≤ length (take (i + n - i) (drop i p))
-part_long p i n h = rw (length-take (i + n - i) (drop i p), length-drop i p) (omega arith)
 
 -- the slot before has the length of this one, and x is where its suffix stands
 pub long_room : (p : List ℕ) (at x n m : ℕ) → x ≡ le 2 p (at + 2) → n ≡ le 2 p at → n ≡ m → 16 ≤ m → Honest p (slot_at p at) → 96 + x + m ≤ length p

@@ -1,15 +1,8 @@
 -- One sweep over the entries: where pieces lie, one entry more that was swept, all pieces apart, and the first and the last entry that tell
 -- whether all lie within the fences. Assumes nothing.
-use mathlib.Core.Path.{◌≡◌, refl, sym, ap, ◌∙◌}
-use mathlib.Core.Bool.{Bool, true, false, not, ◌&&◌, ◌||◌}
-use mathlib.Core.List.{List, []}
-use Prim.Native.Nat.{ℕ, zero, suc, ◌+◌, ◌-◌, ◌*◌, ◌^◌, ◌≤◌, ◌<◌}
+use Rattle.std.proofs.Common.{◌≡◌, refl, sym, ap, ◌∙◌, Bool, true, false, not, ◌&&◌, ◌||◌, List, [], ℕ, zero, suc, ◌+◌, ◌-◌, ◌*◌, ◌^◌, ◌≤◌, ◌<◌, arith, add-one, eq-eqb, lt-ltb, eqb, length}
 use native.Mathlib.Decide.{dec_lt, dec_le}
-use native.Mathlib.Omega.{arith}
-use native.Mathlib.Numerals.{add-one}
-use borrow.Author.Tests.{eq-eqb, lt-ltb, not-true}
-use lib.Dec.{eqb}
-use lib.ListN.{length}
+use borrow.Author.Tests.{not-true}
 use Rattle.octets.specs.Bytes.{IsBytes}
 use Rattle.octets.proofs.Little.{le-lt}
 use Rattle.keys.specs.Choice.{pick, both}
@@ -30,15 +23,16 @@ use Rattle.node.proofs.Rules.{rules_in}
 use Rattle.search.specs.Fence.{inside_by}
 use Rattle.verdict.specs.declared.tally.Tally.{Tally}
 use Rattle.verdict.specs.Pieces.{held_with, piece_at}
-use Rattle.verdict.specs.Honest.{Honest}
+use Rattle.verdict.specs.declared.fences.Fences.{Fences}
+use Rattle.verdict.specs.Honest.{Honest, FencesOf}
 use Rattle.verdict.specs.Starts.{Begun, Lone, Starts}
 use Rattle.verdict.specs.Sweep.{Before, Swept, AllLone, Sound}
 use Rattle.verdict.specs.Tally.{suffix_at, tally_of}
 use Rattle.verdict.proofs.Pieced.{tab-all, all_tab, held-slot, held_all, piece-payload, piece-prefix, piece-lower, piece-upper}
 use Rattle.verdict.proofs.Overlaps.{disjoint-yes}
 use Rattle.verdict.proofs.Suffixes.{below-heads}
-use Rattle.verdict.proofs.Tallied.{all_more, sum_more, rising_next, fenced_is, needs_most, entry-room}
-use Rattle.verdict.proofs.Starting.{lone_same, starts_none, starts_more, all_apart}
+use Rattle.verdict.proofs.Tallied.{all_more, sum_more, rising_next, fenced_is, honest-len, needs_most, entry-room}
+use Rattle.verdict.proofs.Starting.{starts_none, starts_more, all_apart}
 
 -- ---- where pieces lie
 abbrev pub Lies : ℕ → Piece → Type 0
@@ -69,15 +63,15 @@ frame_lies w p h j r l = go (dec_le j h.count) (dec_le j (h.count + 1))
     go (no b) (no c) = rw (piece-upper w p h j (omega arith)) (fence_lies h.end h.upper (rules_in h r).upper)
 
 -- lo..hi is a piece that lies in the body, and a map of n cells from o on reaches from its first byte to its end
-pub in_map : (e o n lo hi : ℕ) (a : Piece) → (lo ≡ a.lo) × (hi ≡ a.hi) → Lies e a → o ≤ e → 16256 < o + 8 * n → lo < hi → (o ≤ lo) × (hi < o + 8 * n) × (hi ≤ 16384)
+pub in_map : (e o n lo hi : ℕ) (a : Piece) → (lo ≡ a.lo) × (hi ≡ a.hi) → Lies e a → o ≤ e → 16320 ≤ o + 8 * n → lo < hi → (o ≤ lo) × (hi + 64 ≤ o + 8 * n) × (hi ≤ 16384)
 in_map e o n lo hi a q f b c l =
     let k : a.lo < a.hi = rw (← q.0, ← q.1) l in
     let x = f k in
     (omega (arith, q.0, q.1), omega (arith, q.0, q.1), omega (arith, q.0, q.1))
 
 pub payload_lies : (w : ℕ) (p : List ℕ) (h : Header) (o n j lo hi : ℕ) → held_with w p h ≡ true → j < h.count
-    → (lo ≡ (slot_payload w (slot_of p j)).lo) × (hi ≡ (slot_payload w (slot_of p j)).hi) → o ≤ h.end → 16256 < o + 8 * n
-    → (o ≤ lo) × (lo ≤ hi) × (lo - o + (hi - lo) < 8 * n) × (lo - o + (hi - lo) ≤ 16384)
+    → (lo ≡ (slot_payload w (slot_of p j)).lo) × (hi ≡ (slot_payload w (slot_of p j)).hi) → o ≤ h.end → 16320 ≤ o + 8 * n
+    → (o ≤ lo) × (lo ≤ hi) × (hi + 64 ≤ o + 8 * n) × (hi ≤ 16384)
 payload_lies w p h o n j lo hi e l q b c =
     let x = within_fact h.end (slot_payload w (slot_of p j)) (held-slot w p h e j l) in
     let lo-is = q.0 in
@@ -109,13 +103,6 @@ held-room w p e s l b q = omega (arith, (within_fact e (slot_payload w s) b).1, 
 pub honest-held : (w : ℕ) (p : List ℕ) (e : ℕ) (s : Slot) (x : ℕ) → 16384 ≤ length p → within e (slot_payload w s) ≡ true → x ≡ head_of (suffix_of p s) → x ≡ s.head
     → Honest p s
 honest-held w p e s x l b q r = record { faithful = sym r ∙ q; room = held-room w p e s l b }
-
-or_true : (t : Bool) → (t || true) ≡ true
-or_true true = refl
-or_true false = refl
-
-pub before-none : (p : List ℕ) (x : ℕ) → Before p 0 x
-before-none p x = record { honest = λ l. absurd (omega arith); is_head = λ l. absurd (omega arith) }
 
 module _ (w : ℕ) (p : List ℕ) (h : Header) (o : ℕ) where
   pub swept_none : (m : List ℕ) → Swept w p h o 0 0 m
@@ -149,8 +136,7 @@ module _ (w : ℕ) (p : List ℕ) (h : Header) (o : ℕ) where
     rising-up : (tally_of w p h (suc n)).rising ≡ true
     unfolding tally_of
     rising-up =
-        sym (rising_next n (suffix_at p) true (λ i. sym (rw slot_is (up i))))
-        ∙ both_yes (rising (tab n (suffix_at p))) (eqb n 0 || true) S.rising (or_true (eqb n 0))
+        sym (rising_next n (suffix_at p) true (λ i. refl) (λ i. sym (rw slot_is (up i)))) ∙ both_yes (rising (tab n (suffix_at p))) true S.rising refl
 
     needs-next : needs + (8 + (k + w)) ≡ (tally_of w p h (suc n)).needs
     unfolding tally_of need
@@ -173,16 +159,10 @@ module _ (w : ℕ) (p : List ℕ) (h : Header) (o : ℕ) where
           starts = starts_more (piece_at w p h) o n m after s.offset (s.offset + (k + w)) S.starts piece_is (λ q. z) B;
         }
 
-  pub swept-done : (i n needs : ℕ) (m : List ℕ) → i ≤ n → n ≤ i → Swept w p h o i needs m → Swept w p h o n needs m
-  swept-done i n needs m a b S = let q : n ≡ i = omega arith in rw q S
-
   pub swept-fits : (i needs : ℕ) (m : List ℕ) → IsBytes p → w < 256 → i < 2032 → Swept w p h o i needs m → needs ≤ 133701536
   swept-fits i needs m bytes l k S = let q = needs_most w p bytes h i (tally_of w p h i) l k refl in omega (arith, S.sum)
 
   -- ---- all pieces
-  pub lone-none : (a : ℕ) (m : List ℕ) → AllLone w p h o a a m
-  lone-none a m = record { lone = λ k b c. absurd (omega arith) }
-
   pub lone-more : (a n : ℕ) (m : List ℕ) → AllLone w p h o a n m → ((piece_at w p h n).lo < (piece_at w p h n).hi → Lone m ((piece_at w p h n).lo - o) ((piece_at w p h n).hi - o))
       → AllLone w p h o a (n + 1) m
   lone-more a n m A f = record { lone = λ k b c. go k b c (dec_lt k n) }
@@ -191,18 +171,10 @@ module _ (w : ℕ) (p : List ℕ) (h : Header) (o : ℕ) where
       go k b c (yes r) = A.lone k b r
       go k b c (no r) = let g : k ≡ n = omega arith in rw g f
 
-  pub lone-done : (a i n : ℕ) (m : List ℕ) → n ≤ i → AllLone w p h o a i m → AllLone w p h o a n m
-  lone-done a i n m l A = record { lone = λ k b c. A.lone k b (omega arith) }
-
-  -- the piece by the numbers that code found
-  pub lone-piece : (n lo hi : ℕ) (m : List ℕ) → (lo ≡ (piece_at w p h n).lo) × (hi ≡ (piece_at w p h n).hi) → (lo < hi → Lone m (lo - o) (hi - o))
-      → (piece_at w p h n).lo < (piece_at w p h n).hi → Lone m ((piece_at w p h n).lo - o) ((piece_at w p h n).hi - o)
-  lone-piece n lo hi m q f = rw (q.0, q.1) at f
-
-  pub lone-payload : (n lo hi : ℕ) (m : List ℕ) → n < h.count → (lo ≡ (slot_payload w (slot_of p n)).lo) × (hi ≡ (slot_payload w (slot_of p n)).hi) → o ≤ lo → lo ≤ hi
-      → Lone m (lo - o) (lo - o + (hi - lo)) → (piece_at w p h n).lo < (piece_at w p h n).hi → Lone m ((piece_at w p h n).lo - o) ((piece_at w p h n).hi - o)
-  lone-payload n lo hi m l q a b L =
-      let f : lo < hi → Lone m (lo - o) (hi - o) = λ k. lone_same m o lo hi a b L in
+  pub lone-payload : (n lo hi : ℕ) (m : List ℕ) → n < h.count → (lo ≡ (slot_payload w (slot_of p n)).lo) × (hi ≡ (slot_payload w (slot_of p n)).hi)
+      → Lone m (lo - o) (hi - o) → (piece_at w p h n).lo < (piece_at w p h n).hi → Lone m ((piece_at w p h n).lo - o) ((piece_at w p h n).hi - o)
+  lone-payload n lo hi m l q L =
+      let f : lo < hi → Lone m (lo - o) (hi - o) = λ k. L in
       rw (piece-payload w p h n l) (rw (q.0, q.1) at f)
 
   pub sound : (needs : ℕ) (m m₀ : List ℕ) → Swept w p h o h.count needs m₀ → Starts (piece_at w p h) o (h.count + 3) m → AllLone w p h o 0 h.count m
@@ -291,15 +263,14 @@ module _ (w : ℕ) (p : List ℕ) (h : Header) where
   unfolding tally_of tab all
   inside-none e = rw e
 
-  pub ends-are : (low high first last : Slot) (a b : Bool) → (tally_of w p h h.count).rising ≡ true → 0 < h.count
-      → suffix_of p low ≡ suffix_of p h.lower → suffix_of p high ≡ suffix_of p h.upper → high.len ≡ h.upper.len
+  pub ends-are : (f : Fences) (first last : Slot) (a b : Bool) → (tally_of w p h h.count).rising ≡ true → 0 < h.count → FencesOf p h f
       → suffix_of p first ≡ suffix_at p 0 → suffix_of p last ≡ suffix_at p (h.count - 1)
-      → a ≡ less (suffix_of p first) (suffix_of p low) → b ≡ less (suffix_of p last) (suffix_of p high)
-      → not a && (eqb high.len 0 || b) ≡ (tally_of w p h h.count).inside
+      → a ≡ less (suffix_of p first) (suffix_of p f.low) → b ≡ less (suffix_of p last) (suffix_of p f.high)
+      → not a && (eqb f.high.len 0 || b) ≡ (tally_of w p h h.count).inside
   unfolding tally_of inside_by
-  ends-are low high first last a b r pos el eh en ef et ea eb =
-      fenced_is a b (less (suffix_of p first) (suffix_of p low)) (less (suffix_of p last) (suffix_of p high)) high ea eb
-      ∙ rw (el, eh, en, ef, et)
+  ends-are f first last a b r pos F ef et ea eb =
+      fenced_is a b (less (suffix_of p first) (suffix_of p f.low)) (less (suffix_of p last) (suffix_of p f.high)) f.high ea eb
+      ∙ rw (F.lower, F.upper, honest-len p h.upper f.high F.high, ef, et)
       (sym (ends-inside h.count (suffix_at p) r (suffix_of p h.lower) (suffix_of p h.upper) (eqb h.upper.len 0) pos))
 
   pub tally-swept : (needs : ℕ) (b : Bool) → Sound w p h needs → b ≡ (tally_of w p h h.count).inside

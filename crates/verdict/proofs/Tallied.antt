@@ -1,13 +1,5 @@
 -- The tally of the entries: none to begin with, and one entry more at each turn. Assumes nothing.
-use mathlib.Core.Path.{◌≡◌, refl, sym, ap, ◌∙◌}
-use mathlib.Core.Bool.{Bool, true, false, not, ◌&&◌, ◌||◌}
-use mathlib.Core.List.{List}
-use Prim.Native.Nat.{ℕ, zero, suc, ◌+◌, ◌-◌, ◌*◌, ◌≤◌, ◌<◌}
-use native.Mathlib.Omega.{arith}
-use native.Mathlib.Numerals.{add-one}
-use borrow.Author.Tests.{ne_eqb}
-use lib.Dec.{eqb}
-use lib.ListN.{length}
+use Rattle.std.proofs.Common.{◌≡◌, refl, sym, ap, ◌∙◌, Bool, true, false, not, ◌&&◌, ◌||◌, List, ℕ, zero, suc, ◌+◌, ◌-◌, ◌*◌, ◌≤◌, ◌<◌, arith, add-one, eqb, length, Option, None, Some, IfSome, MatchOption}
 use Rattle.octets.specs.Bytes.{IsBytes}
 use Rattle.octets.proofs.Little.{le-lt}
 use Rattle.keys.specs.Choice.{pick, both}
@@ -23,7 +15,8 @@ use Rattle.paper.proofs.Fit.{within_fact}
 use Rattle.node.specs.Header.{rules_of}
 use Rattle.node.proofs.Rules.{rules_in}
 use Rattle.verdict.specs.declared.tally.Tally.{Tally}
-use Rattle.verdict.specs.Honest.{Turn}
+use Rattle.verdict.specs.declared.fences.Fences.{Fences}
+use Rattle.verdict.specs.Honest.{Honest, FencesOf, LastIs, Turn}
 use Rattle.verdict.specs.Pieces.{held_with}
 use Rattle.search.specs.Fence.{inside_by}
 use Rattle.verdict.specs.Tally.{honest_of, suffix_at, tally_of}
@@ -60,6 +53,10 @@ pub tally-none : (w : ℕ) (p : List ℕ) (h : Header) → ◌≡◌ {A = Tally}
 unfolding tally_of tab all sum rising
 tally-none w p h = refl
 
+pub honest-len : (p : List ℕ) (s x : Slot) → x ≡ honest_of p s → x.len ≡ s.len
+unfolding honest_of
+honest-len p s x e = rw e
+
 -- within the fences, as code tests it
 pub fenced_is : (a b x y : Bool) (high : Slot) → a ≡ x → b ≡ y → not a && (eqb high.len 0 || b) ≡ both (not x) (pick (eqb high.len 0) true y)
 fenced_is a b x y high e f = rw (e, f) (ap (both (not x)) (or-pick (eqb high.len 0) y))
@@ -68,13 +65,20 @@ fenced_is a b x y high e f = rw (e, f) (ap (both (not x)) (or-pick (eqb high.len
     or-pick true z = refl
     or-pick false z = refl
 
--- rising, where b compares with the entry before
-pub rising_next : (n : ℕ) (f : ℕ → List ℕ) (b : Bool) → (0 < n → b ≡ less (f (n - 1)) (f n)) → rising (tab n f) && (eqb n 0 || b) ≡ rising (tab (suc n) f)
+-- the same by the fences of a page
+pub fenced-by : (p : List ℕ) (h : Header) (f : Fences) (s : Slot) (a b : Bool) → FencesOf p h f → a ≡ less (suffix_of p s) (suffix_of p f.low)
+    → b ≡ less (suffix_of p s) (suffix_of p f.high) → not a && (eqb f.high.len 0 || b) ≡ inside_by p h (suffix_of p s)
+unfolding inside_by
+fenced-by p h f s a b F ea eb =
+    fenced_is a b _ _ f.high ea eb ∙ rw (F.lower, F.upper, honest-len p h.upper f.high F.high)
+
+-- rising, where b compares with the entry before, if there is one
+pub rising_next : (n : ℕ) (f : ℕ → List ℕ) (b : Bool) → (n ≡ 0 → b ≡ true) → (0 < n → b ≡ less (f (n - 1)) (f n)) → rising (tab n f) && b ≡ rising (tab (suc n) f)
 unfolding rising below_first tab
-rising_next zero f b e = refl
-rising_next (suc n) f b e =
+rising_next zero f b z e = z refl
+rising_next (suc n) f b z e =
     let m : suc n - 1 ≡ n = omega arith in
-    rw (ne_eqb (suc n) 0 (λ q. omega arith), e (omega arith), m) (sym (rising-more n f))
+    rw (e (omega arith), m) (sym (rising-more n f))
 
 -- ---- one turn
 module _ (p : List ℕ) (bytes : IsBytes p) where
@@ -82,42 +86,42 @@ module _ (p : List ℕ) (bytes : IsBytes p) where
   unfolding slot_of
   suffix-is i s e = rw e (honest-suffix p (slot_of p i) (le-lt 4 p (place i + 4) bytes))
 
-  module _ (w : ℕ) (h : Header) (i : ℕ) (low high last s : Slot) (t : Tally) (turn : Turn w p h i low high last s t) where
+  module _ (w : ℕ) (h : Header) (i : ℕ) (f : Fences) (last : Option Slot) (s : Slot) (t : Tally) (turn : Turn w p h i f last s t) where
     faithful-turn : (stored : Slot) → stored ≡ slot_of p i → t.faithful && eqb stored.head s.head ≡ (tally_of w p h (suc i)).faithful
     unfolding tally_of honest_of faithful
     faithful-turn stored e = rw (e, turn.slot, turn.tally) (sym (all_more (λ s. faithful s (suffix_of p s)) i (slot_of p)))
 
-    inside-turn : (f : Bool) → f ≡ both (not (less (suffix_of p s) (suffix_of p low))) (pick (eqb high.len 0) true (less (suffix_of p s) (suffix_of p high)))
-        → t.inside && f ≡ (tally_of w p h (suc i)).inside
-    unfolding tally_of inside_by
-    inside-turn f e =
-        rw (turn.tally, e, suffix-is i s turn.slot, turn.lower, turn.upper, turn.upper_len) (sym (all_more (inside_by p h) i (suffix_at p)))
-
-    rising-turn : (b : Bool) → b ≡ less (suffix_of p last) (suffix_of p s) → t.rising && (eqb i 0 || b) ≡ (tally_of w p h (suc i)).rising
+    inside-turn : (x : Bool) → x ≡ inside_by p h (suffix_of p s) → t.inside && x ≡ (tally_of w p h (suc i)).inside
     unfolding tally_of
-    rising-turn b e =
-        rw turn.tally (rising_next i (suffix_at p) b (λ q. e ∙ rw (suffix-is (i - 1) last (turn.before q), suffix-is i s turn.slot)))
+    inside-turn x e = rw (turn.tally, e, suffix-is i s turn.slot) (sym (all_more (inside_by p h) i (suffix_at p)))
+
+    rising-turn : (b : Bool) → MatchOption last (b ≡ true) (λ l. b ≡ less (suffix_of p l) (suffix_of p s)) → t.rising && b ≡ (tally_of w p h (suc i)).rising
+    unfolding tally_of
+    rising-turn b e = rw turn.tally (go last turn.before e)
+      where
+        go : (x : Option Slot) → LastIs p i x → MatchOption x (b ≡ true) (λ l. b ≡ less (suffix_of p l) (suffix_of p s)) → rising (tab i (suffix_at p)) && b ≡ rising (tab (suc i) (suffix_at p))
+        go None z q = rising_next i (suffix_at p) b (λ k. q) (λ k. absurd (omega arith))
+        go (Some l) z q = rising_next i (suffix_at p) b (λ k. absurd (omega (arith, z.0))) (λ k. q ∙ rw (suffix-is (i - 1) l z.1, suffix-is i s turn.slot))
 
     needs-turn : (n : ℕ) → n ≡ body_bytes 4 s.len → t.needs + (8 + w + n) ≡ (tally_of w p h (suc i)).needs
     unfolding tally_of honest_of need
     needs-turn n e = rw (turn.tally, e, turn.slot) (sym (sum_more (λ (s : Slot). need w s.len) i (slot_of p)))
 
-    pub tally-turn : (stored : Slot) (f b : Bool) (n : ℕ) → stored ≡ slot_at p (place i)
-        → f ≡ both (not (less (suffix_of p s) (suffix_of p low))) (pick (eqb high.len 0) true (less (suffix_of p s) (suffix_of p high)))
-        → b ≡ less (suffix_of p last) (suffix_of p s) → n ≡ body_bytes 4 s.len
+    pub tally-turn : (stored : Slot) (x b : Bool) (n : ℕ) → stored ≡ slot_at p (place i) → x ≡ inside_by p h (suffix_of p s)
+        → MatchOption last (b ≡ true) (λ l. b ≡ less (suffix_of p l) (suffix_of p s)) → n ≡ body_bytes 4 s.len
         → ◌≡◌ {A = Tally} (record {
           faithful = t.faithful && eqb stored.head s.head;
-          inside = t.inside && f;
-          rising = t.rising && (eqb i 0 || b);
+          inside = t.inside && x;
+          rising = t.rising && b;
           needs = t.needs + (8 + w + n);
         }) (tally_of w p h (i + 1))
     unfolding slot_of
-    tally-turn stored f b n e ef eb en =
-        let x = faithful-turn stored e in
-        let y = inside-turn f ef in
-        let z = rising-turn b eb in
-        let u = needs-turn n en in
-        rw (add-one i) (λ k. record { faithful = x k; inside = y k; rising = z k; needs = u k })
+    tally-turn stored x b n e ef eb en =
+        let first = faithful-turn stored e in
+        let second = inside-turn x ef in
+        let third = rising-turn b eb in
+        let fourth = needs-turn n en in
+        rw (add-one i) (λ k. record { faithful = first k; inside = second k; rising = third k; needs = fourth k })
 
 -- ---- the needs stay small
 sum-most : (g : Slot → ℕ) (f : ℕ → Slot) → ((j : ℕ) → g (f j) ≤ 65798) → (n : ℕ) → sum g (tab n f) ≤ n * 65798
@@ -159,12 +163,9 @@ module _ (p : List ℕ) (i : ℕ) (stored : Slot) (e : stored ≡ slot_at p (pla
   pub last-is : (s : Slot) → s ≡ honest_of p stored → s ≡ honest_of p (slot_of p (i + 1 - 1))
   last-is s q = let n : i + 1 - 1 ≡ i = omega arith in rw n (weighed-is s q)
 
-pub honest-len : (p : List ℕ) (s x : Slot) → x ≡ honest_of p s → x.len ≡ s.len
-unfolding honest_of
-honest-len p s x e = rw e
+pub last-honest : (p : List ℕ) (i : ℕ) (x : Option Slot) → LastIs p i x → IfSome x (Honest p)
+last-honest p i None z = tt
+last-honest p i (Some l) z = z.2
 
 pub count_most : (h : Header) (i : ℕ) → rules_of h ≡ true → i < h.count → i < 2032
 count_most h i e l = let r = rules_in h e in omega (arith, r.start, r.order, r.top)
-
-pub tally_done : (w : ℕ) (p : List ℕ) (h : Header) (i n : ℕ) (t : Tally) → i ≤ n → n ≤ i → t ≡ tally_of w p h i → t ≡ tally_of w p h n
-tally_done w p h i n t l k e = let q : n ≡ i = omega arith in rw q e

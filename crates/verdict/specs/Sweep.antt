@@ -1,25 +1,27 @@
 -- What one sweep over the entries shows.
-use Rattle.std.specs.Prelude.{◌≡◌, ℕ, ◌+◌, ◌-◌, ◌*◌, ◌≤◌, ◌<◌, true, List, length}
+use Rattle.std.specs.Prelude.{◌≡◌, ℕ, ◌+◌, ◌-◌, ◌*◌, ◌≤◌, ◌<◌, true, List, Option, MatchOption}
 use Rattle.paper.specs.Page.{slot_of}
 use Rattle.paper.specs.Verdicts.{slot_payload, within}
 use Rattle.paper.specs.declared.page.Header.{Header}
-use Rattle.node.specs.Header.{rules_of}
 use Rattle.verdict.specs.Pieces.{held_with, piece_at, disjoint_with}
 use Rattle.verdict.specs.Honest.{Honest}
 use Rattle.verdict.specs.Starts.{Starts, Lone}
 use Rattle.verdict.specs.Tally.{tally_of}
 
--- the page and its header are such that a map of n cells from o on has a cell for each byte of the pieces, and for their ends
-pub record Room (p : List ℕ) (h : Header) (o n : ℕ) : Type 0 where
-  pub page : 16384 ≤ length p
-  pub rules : rules_of h ≡ true
+-- a map of n cells from o on has a cell for each byte of the pieces, and eight for their ends
+pub record Room (h : Header) (o n : ℕ) : Type 0 where
   pub low : o ≤ h.end
-  pub high : 16256 < o + 8 * n
+  pub high : 16320 ≤ o + 8 * n
+  pub most : n ≤ 16384
 
 -- the entry before entry i has a faithful head, and this is it
 pub record Before (p : List ℕ) (i head : ℕ) : Type 0 where
   pub honest : 0 < i → Honest p (slot_of p (i - 1))
   pub is_head : 0 < i → head ≡ (slot_of p (i - 1)).head
+
+-- the head of the entry before entry i, if there is one
+abbrev pub HeadBefore : List ℕ → ℕ → Option ℕ → Type 0
+HeadBefore p i last = MatchOption last (i ≡ 0) (λ head. (0 < i) × Before p i head)
 
 -- the first n entries keep U2, U4 and U7, their needs are known, and m has their starts
 pub record Swept (w : ℕ) (p : List ℕ) (h : Header) (o n needs : ℕ) (m : List ℕ) : Type 0 where

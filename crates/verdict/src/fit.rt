@@ -1,83 +1,53 @@
 // The fit verdict, and pages that are fit.
-ghost use Rattle.std.specs.Prelude.{◌≡◌, true, [], ◌∷◌, ◌≤◌, length};
+ghost use Rattle.std.specs.Prelude.{◌≡◌, ◌≤◌, length};
 ghost use Rattle.paper.specs.Page.{header_of};
-ghost use Rattle.paper.specs.Verdicts.{first_broken};
 ghost use Rattle.paper.specs.Calls.{fit_verdict};
-ghost use Rattle.node.specs.Header.{rules_of};
-ghost use Rattle.verdict.specs.Fits.{key_rules, fit_with, fit_header_of, fit_admit_of};
+ghost use Rattle.verdict.specs.Fits.{key_rules, fit_header_of, fit_admit_of};
+ghost use Rattle.verdict.specs.Weighed.{first_rule, broken_with};
 
-use crate::{overlap, pieces, rules, sweep, tally};
+use crate::subject::Judged;
+use crate::tally::Tally;
 use node::{admit, header};
 use paper::page::Header;
 use paper::refusal::Refusal;
 
-// The first of U4 to U9 that does not hold, or 0.
-fn first_of(u4: bool, u5: bool, u6: bool, u7: bool, u8: bool, u9: bool) -> u8
-    ensures { result ≡ first_broken 4 (u4 ∷ u5 ∷ u6 ∷ u7 ∷ u8 ∷ u9 ∷ []) }
-{
-    if !u4 {
-        return 4;
+impl Judged<'_> {
+    // The first rule broken of U4 to U9, by the tally of the entries.
+    fn first_of_keys(&self, t: Tally) -> Option<u8>
+        ensures { result ≡ first_rule 4 (key_rules self.now.page.now self.now.header t) }
+    {
+        let kept = [
+            self.fences_faithful() & t.faithful,
+            self.fences_fit(),
+            t.inside,
+            t.rising,
+            self.effective_right(t.needs),
+            self.hints_fresh(),
+        ];
+        let i = kept.iter().position(|kept| !*kept)?;
+        Some(4 + (i as u8))
     }
-    if !u5 {
-        return 5;
+
+    // The first rule broken of U2 to U9.
+    fn first_broken(&self) -> Option<u8>
+        ensures { result ≡ broken_with self.now.width self.now.page.now self.now.header }
+    {
+        match self.weighed() {
+            Ok(tally) => self.first_of_keys(tally),
+            Err(rule) => Some(rule),
+        }
     }
-    if !u6 {
-        return 6;
-    }
-    if !u7 {
-        return 7;
-    }
-    if !u8 {
-        return 8;
-    }
-    if !u9 {
-        return 9;
-    }
-    0
 }
 
-// The first rule broken of U4 to U9 on a page with this header, or 0, by the four parts of the tally of its entries.
-fn first_of_keys(p: &[u8], h: Header, faithful: bool, inside: bool, rising: bool, needs: u32) -> u8
-    requires { (16384 ≤ length p.now) × (rules_of h ≡ true) }
-    ensures { result ≡ first_broken 4 (key_rules p.now h (record { faithful = faithful; inside = inside; rising = rising; needs = needs })) }
-{
-    let heads = rules::fences_faithful(p, h) & faithful;
-    let fences = rules::fences_fit(p, h);
-    let effective = rules::effective_right(h, needs);
-    let hints = rules::hints_fresh(p, h);
-    first_of(heads, fences, inside, rising, effective, hints)
-}
-
-// The first rule broken on a page whose header keeps the rules, or 0: rule by rule.
-fn first_by_rule(p: &[u8], h: Header, width: u8) -> u8
-    requires { (16384 ≤ length p.now) × (rules_of h ≡ true) }
-    ensures { result ≡ fit_with width p.now h }
-{
-    if !pieces::payloads_held(p, h, width) {
-        return 2;
-    }
-    if !overlap::disjoint(p, h, width) {
-        return 3;
-    }
-    let t = tally::tally_entries(p, h, width);
-    first_of_keys(p, h, t.faithful, t.inside, t.rising, t.needs)
-}
-
-// The first rule broken on a page, or 0. Most pages are swept once. The header is read here: handed over it would go through memory.
-fn first_broken(p: &[u8], width: u8) -> u8
+// The first rule broken on a page.
+fn first_broken(p: &[u8], width: u8) -> Option<u8>
     requires { 16384 ≤ length p.now }
-    ensures { result ≡ fit_with width p.now (header_of p.now) }
+    ensures { result ≡ broken_with width p.now (header_of p.now) }
 {
-    let h = header::read_header(p);
-    if !header::rules_hold(h) {
-        return 1;
+    match Judged::of(p, width) {
+        Some(judged) => judged.first_broken(),
+        None => Some(1),
     }
-    let needs = sweep::sweep(p, h, width);
-    if needs == 4294967295 {
-        return first_by_rule(p, h, width);
-    }
-    let inside = sweep::ends_fenced(p, h, width);
-    first_of_keys(p, h, true, inside, true, needs)
 }
 
 // The fit verdict: 0, or the first rule broken. Refuses 1, 2.
@@ -90,7 +60,7 @@ pub fn fit_verdict(p: &[u8], width: u8) -> Result<u8, Refusal>
     if !admit::known_width(width) {
         return Err(Refusal::Width);
     }
-    Ok(first_broken(p, width))
+    Ok(first_broken(p, width).unwrap_or(0))
 }
 
 // The header of a page that is fit, or 5 with the first rule broken.
@@ -98,11 +68,10 @@ pub fn fit_header(p: &[u8], width: u8) -> Result<Header, Refusal>
     requires { 16384 ≤ length p.now }
     ensures { result ≡ fit_header_of width p.now }
 {
-    let broken = first_broken(p, width);
-    if broken != 0 {
-        return Err(Refusal::NotFit(broken));
+    match first_broken(p, width) {
+        Some(rule) => Err(Refusal::NotFit(rule)),
+        None => Ok(header::read_header(p)),
     }
-    Ok(header::read_header(p))
 }
 
 // 1, 2, 3 and 5 in this order, for a call whose key has `key_len` bytes; else the header. What an edit begins with.

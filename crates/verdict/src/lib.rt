@@ -1,7 +1,9 @@
 // The two verdicts, and pages that are fit.
 #![tactic(auto)]
 
+mod cells;
 mod cover;
+mod fences;
 pub mod fit;
 pub mod layout;
 mod overlap;
@@ -9,6 +11,8 @@ mod pieces;
 mod rise;
 mod rules;
 mod starts;
+mod subject;
 mod suffix;
 mod sweep;
 mod tally;
+mod weighing;

@@ -1,12 +1,12 @@
 // The pieces of a page's body: payloads, the long prefix, long fence suffixes.
-ghost use Rattle.std.specs.Prelude.{◌≡◌, true, ◌+◌, ◌*◌, ◌≤◌, ◌<◌, length};
+ghost use Rattle.std.specs.Prelude.{◌≡◌, ◌+◌, ◌-◌, ◌*◌, ◌≤◌, ◌<◌, ltb, leb, min, max};
 ghost use Rattle.paper.specs.Page.{slot_of};
 ghost use Rattle.paper.specs.Verdicts.{slot_payload, fence_piece, prefix_piece};
-ghost use Rattle.node.specs.Header.{rules_of};
 ghost use Rattle.verdict.specs.Pieces.{held_with, piece_at};
 
+use crate::subject::Judged;
 use node::{header, slots, space};
-use paper::page::{Header, Slot};
+use paper::page::Slot;
 
 // The bytes lo..hi of the body.
 #[derive(Clone, Copy)]
@@ -15,32 +15,29 @@ pub struct Extent {
     pub hi: usize,
 }
 
-// U2: whether every entry's payload lies in end..16,256.
-pub fn payloads_held(p: &[u8], h: Header, width: u8) -> bool
-    requires { (16384 ≤ length p.now) × (rules_of h ≡ true) }
-    ensures { result ≡ held_with width p.now h }
-{
-    let mut i = 0;
-    while i < (h.count as usize) {
-        let Ok(_) = slots::visit_slot(p, h.count, h.end, width, i) else {
-            return false;
-        };
-        i += 1;
+impl Extent {
+    // Whether it has no byte.
+    pub fn is_empty(self) -> bool
+        ensures { result ≡ leb self.hi self.lo }
+    {
+        self.hi <= self.lo
     }
-    true
-}
 
-// The payload of entry `i`.
-pub(crate) fn payload(p: &[u8], width: u8, i: usize) -> Extent
-    requires { (16384 ≤ length p.now) × (8 * i ≤ 16248) }
-    ensures { (result.lo ≡ (slot_payload width (slot_of p.now i)).lo) × (result.hi ≡ (slot_payload width (slot_of p.now i)).hi) }
-{
-    let s = header::read_slot(p, 96 + 8 * i);
-    let n = slots::suffix_bytes(s.len);
-    let lo = s.offset as usize;
-    Extent {
-        lo,
-        hi: lo + (n + (width as usize)),
+    // How many bytes it has.
+    pub fn len(self) -> usize
+        requires { self.lo ≤ self.hi }
+        ensures { result ≡ self.hi - self.lo }
+    {
+        self.hi - self.lo
+    }
+
+    // Whether both share a byte; an empty one shares none.
+    pub fn touches(self, other: Extent) -> bool
+        ensures { result ≡ ltb (max self.lo other.lo) (min self.hi other.hi) }
+    {
+        let each = (self.lo < self.hi) & (other.lo < other.hi);
+        let both = (self.lo < other.hi) & (other.lo < self.hi);
+        each & both
     }
 }
 
@@ -64,20 +61,56 @@ fn prefix(n: u16) -> Extent
     }
 }
 
-// Piece `j`: the payloads in slot order, then the prefix, the lower fence and the upper one.
-pub fn piece(p: &[u8], h: Header, width: u8, j: usize) -> Extent
-    requires { (16384 ≤ length p.now) × (rules_of h ≡ true) × (j < h.count + 3) }
-    ensures { (result.lo ≡ (piece_at width p.now h j).lo) × (result.hi ≡ (piece_at width p.now h j).hi) }
-{
-    let n = h.count as usize;
-    if j < n {
-        return payload(p, width, j);
+impl Judged<'_> {
+    // How many pieces there are: the payloads, the prefix and both fences.
+    pub fn piece_count(&self) -> usize
+        ensures { result ≡ self.now.header.count + 3 }
+    {
+        (self.header.count as usize) + 3
     }
-    if j == n {
-        return prefix(h.prefix_len);
+
+    // U2: whether every entry's payload lies in end..16,256.
+    pub fn payloads_held(&self) -> bool
+        ensures { result ≡ held_with self.now.width self.now.page.now self.now.header }
+    {
+        let h = &self.header;
+        for i in 0..h.count as usize {
+            let Ok(_) = slots::visit_slot(self.page, h.count, h.end, self.width, i) else {
+                return false;
+            };
+        }
+        true
     }
-    if j == n + 1 {
-        return fence(h.lower);
+
+    // The payload of entry `i`.
+    pub fn payload(&self, i: usize) -> Extent
+        requires { 8 * i ≤ 16248 }
+        ensures { (result.lo ≡ (slot_payload self.now.width (slot_of self.now.page.now i)).lo) × (result.hi ≡ (slot_payload self.now.width (slot_of self.now.page.now i)).hi) }
+    {
+        let s = header::read_slot(self.page, 96 + 8 * i);
+        let n = slots::suffix_bytes(s.len);
+        let lo = s.offset as usize;
+        Extent {
+            lo,
+            hi: lo + (n + (self.width as usize)),
+        }
     }
-    fence(h.upper)
+
+    // Piece `j`: the payloads in slot order, then the prefix, the lower fence and the upper one.
+    pub fn piece(&self, j: usize) -> Extent
+        requires { j < self.now.header.count + 3 }
+        ensures { (result.lo ≡ (piece_at self.now.width self.now.page.now self.now.header j).lo) × (result.hi ≡ (piece_at self.now.width self.now.page.now self.now.header j).hi) }
+    {
+        let n = self.header.count as usize;
+        if j < n {
+            return self.payload(j);
+        }
+        if j == n {
+            return prefix(self.header.prefix_len);
+        }
+        if j == n + 1 {
+            return fence(self.header.lower);
+        }
+        fence(self.header.upper)
+    }
 }

@@ -21,26 +21,27 @@ fn same_16(a: &[u8], b: &[u8], i: usize) -> bool
 }
 
 // A place up to which two suffixes agree, 16 bytes or more before their end.
-fn fork(a: &[u8], b: &[u8], n: usize) -> usize
-    requires { (16 ≤ n) × (n ≤ length a.now) × (n ≤ length b.now) }
-    ensures { (result + 16 ≤ n) × (result ≤ common a.now b.now) }
+fn fork(a: &[u8], b: &[u8]) -> usize
+    requires { (16 ≤ length a.now) × (length a.now ≤ length b.now) }
+    ensures { (result + 16 ≤ length a.now) × (result ≤ common a.now b.now) }
 {
-    let mut k = 0;
-    while 16 < n - k {
-        if !same_16(a, b, k) {
-            return k;
+    let n = a.len();
+    for i in 0..(n - 1) / 16 {
+        if !same_16(a, b, 16 * i) {
+            return 16 * i;
         }
-        k += 16;
     }
     n - 16
 }
 
-// Whether one of two suffixes of `n` bytes is below the other, by the two words at their fork. No is also said where these are alike.
-fn words_below(a: &[u8], b: &[u8], n: usize) -> bool
-    requires { (16 ≤ n) × (n ≤ length a.now) × (n ≤ length b.now) }
+// Whether one of two suffixes of one length is below the other, by the two words at their fork. No is also said where these are alike.
+// Inlined for the sweep, as `above`.
+#[inline(always)]
+fn words_below(a: &[u8], b: &[u8]) -> bool
+    requires { (16 ≤ length a.now) × (length a.now ≤ length b.now) }
     ensures { result ≡ true → less a.now b.now ≡ true }
 {
-    let k = fork(a, b, n);
+    let k = fork(a, b);
     let x = number::read_be_u64(a, k);
     let y = number::read_be_u64(b, k);
     if x != y {
@@ -50,7 +51,8 @@ fn words_below(a: &[u8], b: &[u8], n: usize) -> bool
 }
 
 // Whether the suffix of the slot at `at` is below that of `b`, both with the heads that their suffixes have. Suffixes of one length
-// are compared by words.
+// are compared by words. Inlined for the sweep, as `above`.
+#[inline(always)]
 pub(crate) fn rises(p: &[u8], at: usize, b: Slot) -> bool
     requires { (at + 8 ≤ length p.now) × Honest p.now (slot_at p.now at) × Honest p.now b }
     ensures { result ≡ true → less (suffix_of p.now (slot_at p.now at)) (suffix_of p.now b) ≡ true }
@@ -61,5 +63,5 @@ pub(crate) fn rises(p: &[u8], at: usize, b: Slot) -> bool
     let n = b.len as usize;
     let i = 96 + (number::read_u16(p, at + 2) as usize);
     let j = 96 + (b.offset as usize);
-    words_below(&p[i..i + n], &p[j..j + n], n)
+    words_below(&p[i..i + n], &p[j..j + n])
 }

@@ -16,19 +16,13 @@ fn kept(head: u32, n: u16) -> u32
     requires { n ≤ 4 }
     ensures { result ≡ head_of (take n (big_bytes 4 head)) }
 {
-    if n == 4 {
-        return head;
+    match n {
+        4 => head,
+        3 => head / 256 * 256,
+        2 => head / 65536 * 65536,
+        1 => head / 16777216 * 16777216,
+        _ => 0,
     }
-    if n == 3 {
-        return head / 256 * 256;
-    }
-    if n == 2 {
-        return head / 65536 * 65536;
-    }
-    if n == 1 {
-        return head / 16777216 * 16777216;
-    }
-    0
 }
 
 // The head of a slot's suffix, whatever head the slot has.
@@ -48,9 +42,8 @@ pub fn honest(p: &[u8], s: Slot) -> Slot
     ensures { (result ≡ honest_of p.now s) × Honest p.now result × (suffix_of p.now result ≡ suffix_of p.now s) }
 {
     Slot {
-        len: s.len,
-        offset: s.offset,
         head: true_head(p, s),
+        ..s
     }
 }
 

@@ -1,10 +1,6 @@
 -- An entry shown is a key copied, with the value beside the length: its tests are those of the copy, so each way out follows from that of the copy.
 -- Assumes nothing.
-use mathlib.Core.Path.{◌≡◌, refl, sym, ap, ◌∙◌}
-use mathlib.Core.Bool.{Bool, true, false}
-use mathlib.Core.List.{List, [], ◌∷◌, ◌++◌}
-use Prim.Native.Nat.{ℕ, ◌+◌, ◌≤◌, ◌<◌, min}
-use lib.ListN.{length}
+use Rattle.std.proofs.Common.{◌≡◌, refl, sym, ap, ◌∙◌, Bool, true, false, List, [], ◌∷◌, ◌++◌, ℕ, ◌+◌, ◌≤◌, ◌<◌, min, length, Result, Ok, Err}
 use Rattle.octets.specs.Bytes.{le, put}
 use Rattle.keys.specs.Choice.{pick}
 use Rattle.paper.specs.Page.{slot_of, value_at, prefix_of, suffix_of}
@@ -17,7 +13,6 @@ use Rattle.node.specs.Admit.{admit_of, opened_of}
 use Rattle.node.proofs.Entries.{entered, width_whole, open-refused, value-within}
 use Rattle.node.proofs.Copies.{copy-short, copy_done, copy_shut, size-least, prefix-most, suffix_within}
 use Rattle.view.specs.Entries.{shown_entry}
-use Rattle.std.specs.Prelude.{Result, Ok, Err}
 use Rattle.view.specs.declared.entry.EntryShown.{EntryShown}
 
 -- the same tests give answers that correspond

@@ -1,9 +1,5 @@
 -- The key of a view that shows a slot of a page is the slot's key, as long as prefix and suffix together, and fits where that fits. Assumes nothing.
-use mathlib.Core.Path.{◌≡◌}
-use mathlib.Core.List.{List, ◌++◌}
-use Prim.Native.Nat.{ℕ, ◌+◌, ◌≤◌}
-use lib.ListN.{length, length-append}
-use native.Mathlib.Omega.{arith}
+use Rattle.std.proofs.Common.{◌≡◌, List, ◌++◌, ℕ, ◌+◌, ◌≤◌, length, length-append, arith}
 use Rattle.std.proofs.lemmas.Grind.{common_steps}
 use Rattle.octets.specs.Bytes.{big_bytes}
 use Rattle.paper.specs.Page.{prefix_of, suffix_of, body_bytes}

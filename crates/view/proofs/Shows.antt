@@ -1,11 +1,6 @@
 -- A key in two runs, against a probe: the first run decides where it differs from as many bytes of the probe, and else the second one against
 -- the rest. Assumes nothing.
-use mathlib.Core.Path.{◌≡◌, refl, sym, ap, ◌∙◌}
-use mathlib.Core.List.{List, ◌++◌}
-use Prim.Native.Nat.{ℕ, ◌-◌, min}
-use native.Mathlib.Omega.{arith}
-use lib.ListN.{length, take, drop, length-drop}
-use lib.Seq.{take_all}
+use Rattle.std.proofs.Common.{◌≡◌, refl, sym, ap, ◌∙◌, List, ◌++◌, ℕ, ◌-◌, min, arith, length, take, drop, length-drop, take_all}
 use Rattle.std.proofs.lemmas.List.{take-append-drop, take_min}
 use Rattle.keys.specs.Keys.{order}
 use Rattle.keys.proofs.Orders.{order_same, order_flip, order-append}

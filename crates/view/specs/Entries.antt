@@ -1,10 +1,9 @@
 -- An entry shown: its value and its key's length, the key written out.
-use Rattle.std.specs.Prelude.{ℕ, List, length}
+use Rattle.std.specs.Prelude.{ℕ, List, length, Result, Ok, Err}
 use Rattle.octets.specs.Bytes.{le}
 use Rattle.paper.specs.Page.{slot_of, value_at}
 use Rattle.paper.specs.Refusals.{judge}
 use Rattle.paper.specs.Calls.{key_at, copy_checks}
-use Rattle.std.specs.Prelude.{Result, Ok, Err}
 use Rattle.paper.specs.declared.refusal.Refusal.{Refusal}
 use Rattle.view.specs.declared.entry.EntryShown.{EntryShown}
 

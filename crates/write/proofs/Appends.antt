@@ -1,11 +1,6 @@
 -- A run appended entry by entry: the first entry of what is left of the run is the slot that code reads, it has room, and once it is
 -- filed the page is ready for the rest. Assumes nothing.
-use mathlib.Core.Path.{◌≡◌, sym, ap, ◌∙◌}
-use mathlib.Core.List.{List, ◌∷◌}
-use Prim.Native.Nat.{ℕ, suc, ◌+◌, ◌-◌, ◌≤◌, ◌<◌}
-use native.Mathlib.Omega.{arith}
-use lib.ListN.{length, drop}
-use lib.Seq.{drop-cons}
+use Rattle.std.proofs.Common.{◌≡◌, sym, ap, ◌∙◌, List, ◌∷◌, ℕ, suc, ◌+◌, ◌-◌, ◌≤◌, ◌<◌, arith, length, drop, drop-cons}
 use Rattle.paper.specs.Lists.{sum}
 use Rattle.paper.specs.Page.{row_of, frame_of, numbers_of, header_of}
 use Rattle.paper.specs.Space.{need}

@@ -1,12 +1,6 @@
 -- An entry filed: the writers one after the other leave the paper's page, and the header that was written back is that page's header.
 -- Assumes nothing.
-use mathlib.Core.Path.{◌≡◌, refl, sym, ap, ◌∙◌}
-use mathlib.Core.Logic.{inl}
-use mathlib.Core.Bool.{true}
-use mathlib.Core.List.{List}
-use Prim.Native.Nat.{ℕ, ◌+◌, ◌*◌, ◌≤◌}
-use native.Mathlib.Omega.{arith}
-use lib.ListN.{length}
+use Rattle.std.proofs.Common.{◌≡◌, refl, sym, ap, ◌∙◌, inl, true, List, ℕ, ◌+◌, ◌*◌, ◌≤◌, arith, length}
 use Rattle.octets.specs.Bytes.{put}
 use Rattle.octets.proofs.Put.{length-put, put_below}
 use Rattle.paper.specs.Page.{place, Numbers, header_of, frame_of, numbers_of}

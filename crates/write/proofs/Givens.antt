@@ -1,11 +1,6 @@
 -- What a call that has tested a page holds: the facts of a fit page, and the room that 13 asks for, are what each writing half requires.
 -- Assumes nothing.
-use mathlib.Core.Path.{◌≡◌, refl}
-use mathlib.Core.Bool.{true}
-use mathlib.Core.List.{List}
-use Prim.Native.Nat.{ℕ, ◌+◌, ◌*◌, ◌≤◌, ◌<◌}
-use native.Mathlib.Omega.{arith}
-use lib.ListN.{length}
+use Rattle.std.proofs.Common.{◌≡◌, refl, true, List, ℕ, ◌+◌, ◌*◌, ◌≤◌, ◌<◌, arith, length}
 use Rattle.paper.specs.Page.{slot_of, frame_of, numbers_of, header_of, view_of}
 use Rattle.paper.specs.Space.{payload_bytes, need, free}
 use Rattle.paper.specs.Listing.{Entry}

@@ -1,11 +1,6 @@
 -- A suffix in two pieces a and b, one after the other: both written, and both without their first bytes. Assumes nothing.
-use mathlib.Core.Path.{◌≡◌, sym, ap, ◌∙◌}
-use mathlib.Core.List.{List, ◌++◌}
-use Prim.Native.Nat.{ℕ, ◌+◌, ◌-◌, ◌≤◌, ◌<◌, min}
+use Rattle.std.proofs.Common.{◌≡◌, sym, ap, ◌∙◌, List, ◌++◌, ℕ, ◌+◌, ◌-◌, ◌≤◌, ◌<◌, min, arith, zero-add, length, drop, length-append, drop_of_length-le}
 use native.Mathlib.Decide.{dec_le}
-use native.Mathlib.Omega.{arith}
-use native.Mathlib.Nat.{zero-add}
-use lib.ListN.{length, drop, length-append, drop_of_length-le}
 use lib.Seq.{take-length, drop-append-le, drop-append-add}
 use Rattle.std.proofs.lemmas.List.{drop_min}
 use Rattle.octets.specs.Bytes.{put}

@@ -1,11 +1,6 @@
 -- A source key cut anew: an entry as its slot's prefix, suffix and value were read, and its key without its first bytes. Assumes nothing.
-use mathlib.Core.Path.{◌≡◌, refl, sym, ap, ◌∙◌}
-use mathlib.Core.List.{List, [], ◌∷◌, ◌++◌}
-use Prim.Native.Nat.{ℕ, zero, suc, ◌+◌, ◌-◌, ◌≤◌, ◌<◌, min}
+use Rattle.std.proofs.Common.{◌≡◌, refl, sym, ap, ◌∙◌, List, [], ◌∷◌, ◌++◌, ℕ, zero, suc, ◌+◌, ◌-◌, ◌≤◌, ◌<◌, min, arith, length, take, drop, length-append, length-drop, drop-drop}
 use native.Mathlib.Nat.{sub-zero}
-use native.Mathlib.Omega.{arith}
-use lib.ListN.{length, take, drop, length-append, length-drop}
-use lib.Seq.{drop-drop}
 use Rattle.octets.specs.Bytes.{le, big_bytes}
 use Rattle.paper.specs.Page.{slot_at, place, slot_of, row_of, frame_of, prefix_of, suffix_of, value_at, body_bytes, numbers_of}
 use Rattle.paper.specs.declared.page.Header.{Header}

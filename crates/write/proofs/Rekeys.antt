@@ -1,12 +1,6 @@
 -- A key changed, and a value set: where the payload goes and what it finds there, the writers one after the other, and the header of the
 -- page that they leave. Assumes nothing.
-use mathlib.Core.Path.{◌≡◌, refl, sym, ◌∙◌}
-use mathlib.Core.Bool.{Bool, true, false}
-use mathlib.Core.List.{List}
-use Prim.Native.Nat.{ℕ, ◌+◌, ◌*◌, ◌-◌, ◌≤◌, ◌<◌, min}
-use native.Mathlib.Omega.{arith}
-use lib.ListN.{length}
-use Rattle.std.specs.Prelude.{Option, Some, None}
+use Rattle.std.proofs.Common.{◌≡◌, refl, sym, ◌∙◌, Bool, true, false, List, ℕ, ◌+◌, ◌*◌, ◌-◌, ◌≤◌, ◌<◌, min, arith, length, Option, Some, None}
 use Rattle.std.specs.Option.{unwrap_or}
 use Rattle.octets.specs.Bytes.{le, put}
 use Rattle.octets.proofs.Put.{length-put, put_below}

@@ -1,10 +1,5 @@
 -- What each writer leaves, as the paper spells it: a header field by field, a slot, a payload, an entry. Assumes nothing.
-use mathlib.Core.Path.{◌≡◌, refl}
-use mathlib.Core.List.{List}
-use Prim.Native.Nat.{ℕ, ◌+◌, ◌-◌, ◌≤◌}
-use native.Mathlib.Nat.{zero-add}
-use native.Mathlib.Omega.{arith}
-use lib.ListN.{length, length-append}
+use Rattle.std.proofs.Common.{◌≡◌, refl, List, ℕ, ◌+◌, ◌-◌, ◌≤◌, zero-add, arith, length, length-append}
 use Rattle.octets.specs.Bytes.{bytes, put}
 use Rattle.octets.proofs.Put.{put-append}
 use Rattle.octets.proofs.Little.{length-bytes}

@@ -1,7 +1,6 @@
 // Run copy: entries of one page appended to another, their keys cut anew under the other's prefix.
-ghost use Rattle.std.specs.Prelude.{◌≡◌, ◌+◌, ◌*◌, ◌≤◌, ◌<◌, min, length};
-ghost use Rattle.octets.specs.Bytes.{big_bytes};
-ghost use Rattle.paper.specs.Page.{suffix_of, body_bytes, numbers_of, header_of};
+ghost use Rattle.std.specs.Prelude.{◌≡◌, ◌+◌, ◌*◌, ◌≤◌, ◌<◌, length};
+ghost use Rattle.paper.specs.Page.{numbers_of, header_of};
 ghost use Rattle.paper.specs.Edits.{more, numbered, appended, run_copied};
 ghost use Rattle.paper.specs.Calls.{run};
 ghost use Rattle.node.specs.Header.{numbers_in};
@@ -12,14 +11,7 @@ use crate::suffix::Suffix;
 use hint::fresh;
 use node::{entry, header, key};
 use octets::value;
-use paper::page::{Header, Slot};
-
-// The lesser of two numbers.
-pub fn least(a: usize, b: usize) -> usize
-    ensures { result ≡ min a b }
-{
-    a.min(b)
-}
+use paper::page::Header;
 
 // The page that a run is copied from, with the length of its prefix and the width of its values: all of its entries can be read.
 #[derive(Drop)]
@@ -28,19 +20,6 @@ struct SourcePage<'q> {
     prefix_len: u16,
     width: u8,
     ghost readable: { Source width page.now prefix_len },
-}
-
-// The suffix of a slot of the page `q`: where it stands, or the first of `four`, the bytes of the slot's head.
-fn suffix<'q>(q: &'q [u8], s: Slot, four: &'q [u8; 4]) -> &'q [u8]
-    requires { (96 + s.offset + body_bytes 4 s.len ≤ length q.now) × (four.now ≡ big_bytes 4 s.head) }
-    ensures { result.now ≡ suffix_of q.now s }
-{
-    let n = s.len as usize;
-    if n <= 4 {
-        return &four[..n];
-    }
-    let start = 96 + (s.offset as usize);
-    &q[start..start + n]
 }
 
 // Entry `j` of the source behind all entries of `p`.
@@ -56,7 +35,7 @@ fn append(p: &mut [u8], h: Header, source: &SourcePage<'_>, j: usize) -> Header
     let four = key::head_bytes(s.head);
     let cut = Suffix::cut(
         key::prefix(q, source.prefix_len),
-        suffix(q, s, &four),
+        key::suffix(q, s, &four),
         h.prefix_len as usize,
     );
     insert::file(p, h, source.width, h.count as usize, &cut, value)

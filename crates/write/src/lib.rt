@@ -7,5 +7,5 @@ pub mod insert;
 mod numbers;
 mod payload;
 pub mod set;
-mod slot;
+pub mod slot;
 mod suffix;

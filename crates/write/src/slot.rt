@@ -19,7 +19,7 @@ pub(crate) fn slot_for(suffix: &Suffix<'_>, offset: u16) -> Slot
 }
 
 // A slot into the eight bytes from `at` on.
-pub(crate) fn write_slot(p: &mut [u8], at: usize, s: Slot)
+pub fn write_slot(p: &mut [u8], at: usize, s: Slot)
     requires { at + 8 ≤ length p.old }
     ensures { p.new ≡ put p.old at (slot_bytes s) }
 {

@@ -1,7 +1,6 @@
 -- A number below 0 is the greatest word, any other itself.
-use mir.Syntax.{w32}
-use mir.Val.{to_z, of_z}
-use mir.Facts.{sfits_to_z, Fits-nat_abs, to_z-of_z, Fits-of_z}
+use Rattle.std.proofs.Common.{w32, to_z, of_z, to_z-of_z}
+use mir.Facts.{sfits_to_z, Fits-nat_abs, Fits-of_z}
 use Rattle.dorgumanna.proofs.Signs.{word_below, word-above, not_below}
 use Rattle.dorgumanna.proofs.answer.signed_word.Goals as goal
 

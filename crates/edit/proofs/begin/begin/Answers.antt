@@ -1,19 +1,20 @@
 -- Each way out is a case of the judgement, with the tests before it; where all held the page is the one begun.
-use mathlib.Core.Path.{sym, ◌∙◌}
-use native.Mathlib.Omega.{arith}
+use Rattle.std.proofs.Common.{sym, ◌∙◌, arith}
 use Rattle.node.proofs.Spaces.{prefix-le}
 use Rattle.edit.proofs.Begun.{begin-size, begin-lower, begin-upper, begin-order, begin-full, begin-done}
 use Rattle.octets.proofs.Clauses.{named_value_p_after}
 use Rattle.edit.proofs.begin.begin.Goals as goal
+use Rattle.edit.proofs.begin.begin.Goals.{then-lower-gt65535-via-then-lower-gt65535, then-lower-gt65535-via-else-lower-gt65535+then-upper-gt65535}
 
 pub returns-then-p-ne16384 : goal.returns-then-p-ne16384
 returns-then-p-ne16384 c = named_value_p_after (begin-size _ _ c.if-p-ne16384.true)
 
 pub returns-then-lower-gt65535 : goal.returns-then-lower-gt65535
-returns-then-lower-gt65535 c = named_value_p_after (begin-lower _ _ c.if-p-ne16384.false c.if-lower-gt65535.true)
-
-pub returns-then-upper-gt65535 : goal.returns-then-upper-gt65535
-returns-then-upper-gt65535 c = named_value_p_after (begin-upper _ _ c.if-p-ne16384.false c.if-lower-gt65535.false c.if-upper-gt65535.true)
+returns-then-lower-gt65535 c =
+    named_value_p_after (elim c.then-lower-gt65535.branch [
+      | then-lower-gt65535-via-then-lower-gt65535 w ↦ begin-lower _ _ c.if-p-ne16384.false w.if-lower-gt65535.true
+      | then-lower-gt65535-via-else-lower-gt65535+then-upper-gt65535 w ↦ begin-upper _ _ c.if-p-ne16384.false w.if-lower-gt65535.false w.if-upper-gt65535.true
+    ])
 
 pub returns-then-not-in_order : goal.returns-then-not-in_order
 returns-then-not-in_order c =
@@ -39,4 +40,4 @@ pub returns : goal.returns
 returns c =
     named_value_p_after (begin-done _ _ c.if-p-ne16384.false c.if-lower-gt65535.false c.if-upper-gt65535.false
     (sym c.in_order.ensures ∙ c.if-not-in_order.false) _ _ c.common_prefix_len-n.ensures
-    c.fence_bytes.ensures.0 c.if-fence_bytes-gt16256.false _ c.begin_at.ensures)
+    c.fence_bytes.ensures.0 c.if-fence_bytes-gt16256.false _ c.write.ensures)

@@ -1,5 +1,5 @@
 -- A refusal keeps the page; where nothing was refused the tests held, and the slot takes the suffix.
-use mathlib.Core.Path.{sym, ◌∙◌}
+use Rattle.std.proofs.Common.{sym, ◌∙◌}
 use Rattle.paper.proofs.Holding.{handed_on}
 use Rattle.edit.proofs.Changes.{change-kept, change-seat, change-written}
 use Rattle.octets.proofs.Clauses.{named_value_p_after}

@@ -1,5 +1,5 @@
 -- The page is fit and the half with the header goes on, or the call is refused as the page is.
-use mathlib.Core.Path.{sym, ◌∙◌}
+use Rattle.std.proofs.Common.{sym, ◌∙◌}
 use Rattle.verdict.proofs.Fitness.{fitted}
 use Rattle.paper.proofs.Holding.{handed_on}
 use Rattle.edit.proofs.Changes.{change-refused, change-fitted}

@@ -1,5 +1,5 @@
 -- Each refusal of the first tests is a case of the judgement; with both pages fit the rest is the other half.
-use mathlib.Core.Path.{sym, ◌∙◌}
+use Rattle.std.proofs.Common.{sym, ◌∙◌}
 use Rattle.paper.proofs.Holding.{handed_on}
 use Rattle.edit.proofs.RunCalls.{fit-told, run-size, run-source, run-width, run-unfit, run-unfit-source, run-fitted}
 use Rattle.octets.proofs.Clauses.{named_value_p_after}

@@ -1,6 +1,6 @@
 -- A short run is none, and a long one is put where it begins, through the part of the page from there on.
 use Rattle.edit.proofs.BegunRuns.{rest-room, rest_put, below-short, below-long, long_room}
-use native.Mathlib.Omega.{arith}
+use Rattle.std.proofs.Common.{arith}
 use Rattle.octets.proofs.Clauses.{named_value_p_after}
 use Rattle.edit.proofs.fences.put_below.Goals as goal
 

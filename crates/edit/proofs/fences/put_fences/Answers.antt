@@ -1,6 +1,6 @@
 -- Each run ends where the one before it begins, and there is room for the three; with both slots they are `runs_put`.
 use Rattle.edit.proofs.BegunRuns.{runs_room, runs_put}
-use native.Mathlib.Omega.{arith}
+use Rattle.std.proofs.Common.{arith}
 use Rattle.octets.proofs.Clauses.{named_value_p_after}
 use Rattle.edit.proofs.fences.put_fences.Goals as goal
 

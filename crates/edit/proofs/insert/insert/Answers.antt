@@ -1,5 +1,5 @@
 -- The page is fit and the half after the test goes on, or the call is refused as the page is.
-use mathlib.Core.Path.{sym, ◌∙◌}
+use Rattle.std.proofs.Common.{sym, ◌∙◌}
 use Rattle.paper.proofs.Holding.{handed_on}
 use Rattle.edit.proofs.Testing.{tested}
 use Rattle.edit.proofs.Inserted.{insert-refused, insert-fitted}

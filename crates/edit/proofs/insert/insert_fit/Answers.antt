@@ -1,6 +1,5 @@
 -- A refusal leaves the page; a slot that was found has the room that the write asks for.
-use mathlib.Core.Path.{sym, ◌∙◌}
-use borrow.Author.Rules.{rules}
+use Rattle.std.proofs.Common.{sym, ◌∙◌, rules}
 use Rattle.paper.proofs.Holding.{handed_on}
 use Rattle.edit.proofs.Inserted.{insert-kept, insert-room, insert-done}
 use Rattle.edit.proofs.insert.insert_fit.Goals as goal

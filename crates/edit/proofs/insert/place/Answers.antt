@@ -1,41 +1,17 @@
 -- Each way out is one law: the value is too large, the key lacks the prefix or lies outside the fences, or what the search of a fit page finds.
-use mathlib.Core.Path.{refl, sym, ◌∙◌}
-use borrow.Author.Tests.{eqb-true, eqb-false}
+use Rattle.std.proofs.Common.{refl, sym, ◌∙◌, eqb-true}
 use Rattle.search.proofs.Asked.{inside_asked}
 use Rattle.paper.proofs.Holding.{handed_on}
 use Rattle.edit.specs.Inserts.{place_by}
 use Rattle.edit.proofs.Testing.{tested-rules, class-asked, find-asked}
-use Rattle.edit.proofs.Inserted.{room_asked, place-range, place-lacks, place-outside, place_found}
+use Rattle.edit.proofs.Inserted.{place_found}
 use Rattle.edit.proofs.insert.place.Goals as goal
-
-pub returns-then-not-fits_width : goal.returns-then-not-fits_width
-returns-then-not-fits_width c =
-    let fits = c.fits_width in
-    sym (place-range _ _ _ _ c.requires _ fits.ensures c.if-not-fits_width.true)
 
 pub within-requires : goal.within-requires
 within-requires c = class-asked _ _ _ c.requires _ c.read_u16.ensures
 
-pub returns-then-not-within : goal.returns-then-not-within
-returns-then-not-within c =
-    let fits = c.fits_width in
-    sym
-    (place-lacks _ _ _ _ c.requires _ fits.ensures c.if-not-fits_width.false _ c.read_u16.ensures _ refl
-    (eqb-false _ _ (sym c.within.ensures ∙ c.if-not-within.true)))
-
 pub inside-requires : goal.inside-requires
 inside-requires c = let T = c.requires in inside_asked _ (tested-rules _ _ _ T) T.size
-
-pub returns-then-not-inside : goal.returns-then-not-inside
-returns-then-not-inside c =
-    let fits = c.fits_width in
-    let inside = c.inside in
-    sym
-    (place-outside _ _ _ _ c.requires _ fits.ensures c.if-not-fits_width.false _ c.read_u16.ensures _ refl
-    (eqb-true _ _ (sym c.within.ensures ∙ c.if-not-within.false)) _ c.suffix-suffix.ensures _ inside.ensures c.if-not-inside.true)
-
-pub has_room-room-requires : goal.has_room-room-requires
-has_room-room-requires c = room_asked _ _ _ c.requires _ c.read_u16-2.ensures _ c.read_u16-3.ensures _ c.suffix-suffix.ensures
 
 pub find_at-requires : goal.find_at-requires
 find_at-requires c = find-asked _ _ _ c.requires

@@ -1,6 +1,5 @@
 -- A refusal leaves the page; a slot that was found has its value there, and that value is the expected one.
-use mathlib.Core.Path.{sym, ◌∙◌}
-use borrow.Author.Rules.{rules}
+use Rattle.std.proofs.Common.{sym, ◌∙◌, rules}
 use Rattle.paper.proofs.Holding.{handed_on}
 use Rattle.edit.proofs.Replaced.{set-kept, set-asked, set-done}
 use Rattle.octets.proofs.Clauses.{named_value_p_after}

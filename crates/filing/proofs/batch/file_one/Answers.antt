@@ -1,5 +1,5 @@
 -- A key that is too long is refused; else the insert on a page that is fit is the call, and its page is fit again.
-use borrow.Author.Rules.{rules}
+use Rattle.std.proofs.Common.{rules}
 use Rattle.filing.proofs.Stands.{one-long, one-filed}
 use Rattle.octets.proofs.Clauses.{named_value_p_after_standing}
 use Rattle.filing.proofs.batch.file_one.Goals as goal

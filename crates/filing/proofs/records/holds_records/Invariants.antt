@@ -1,7 +1,5 @@
 -- Where the records from the place reached end is where all of them end: one law a turn, one for each way out.
-use mathlib.Core.Path.{◌≡◌}
-use Prim.Native.Nat.{◌-◌, ◌≤◌}
-use lib.ListN.{length}
+use Rattle.std.proofs.Common.{◌≡◌, ◌-◌, ◌≤◌, length}
 use Rattle.filing.specs.Batches.{end_from}
 use Rattle.filing.proofs.records.holds_records.Given as goal
 

@@ -1,7 +1,5 @@
 -- Eight heads at equal distances are the fresh hints.
-use mathlib.Core.Path.{◌≡◌, refl}
-use Prim.Native.Nat.{◌/◌}
-use borrow.Author.Rules.{rules}
+use Rattle.std.proofs.Common.{◌≡◌, refl, ◌/◌, rules}
 use Rattle.hint.proofs.Runs.{tabled}
 use Rattle.paper.specs.Hints.{fresh}
 use Rattle.hint.proofs.fresh.fresh_hints.Goals as goal

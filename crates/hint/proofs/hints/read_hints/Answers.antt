@@ -1,6 +1,5 @@
 -- Eight numbers at their places are the hints.
-use mathlib.Core.Path.{◌≡◌, refl}
-use borrow.Author.Rules.{rules}
+use Rattle.std.proofs.Common.{◌≡◌, refl, rules}
 use Rattle.hint.proofs.Runs.{tabled}
 use Rattle.paper.specs.Page.{hints_of}
 use Rattle.hint.proofs.hints.read_hints.Goals as goal

@@ -1,7 +1,5 @@
 -- The loop keeps what is left to put: the hints from place i on. A turn is `flat-turn`.
-use mathlib.Core.Path.{◌≡◌}
-use Prim.Native.Nat.{◌+◌, ◌*◌}
-use lib.ListN.{drop}
+use Rattle.std.proofs.Common.{◌≡◌, ◌+◌, ◌*◌, drop}
 use Rattle.octets.specs.Bytes.{put}
 use Rattle.paper.specs.Hints.{flat}
 use Rattle.hint.proofs.hints.write_hints.Given as goal

@@ -1,8 +1,5 @@
 -- From 8 on there are no hints.
-use mathlib.Core.Path.{◌≡◌}
-use native.Mathlib.Omega.{arith}
-use borrow.Author.Rules.{rules}
-use lib.ListN.{length}
+use Rattle.std.proofs.Common.{◌≡◌, arith, rules, length}
 use Rattle.hint.proofs.Windows.{first-none}
 use Rattle.hint.proofs.window.first_hint.Goals as goal
 

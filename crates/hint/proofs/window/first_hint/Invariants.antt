@@ -1,8 +1,5 @@
 -- The loop keeps the first hint that passes of those from i on. A turn finds one sooner or leaves it: `first-here`, `first-later`.
-use mathlib.Core.Path.{◌≡◌}
-use mathlib.Core.Bool.{Bool}
-use Prim.Native.Nat.{ℕ, ◌+◌, ◌≤◌}
-use lib.ListN.{drop}
+use Rattle.std.proofs.Common.{◌≡◌, Bool, ℕ, ◌+◌, ◌≤◌, drop}
 use Rattle.paper.specs.Hints.{first_hint}
 use Rattle.hint.specs.Passing.{Decides}
 use Rattle.hint.proofs.window.first_hint.Given as goal

@@ -1,7 +1,5 @@
 -- Either answer is the case of the definition that the test picked.
-use mathlib.Core.Path.{◌∙◌}
-use borrow.Author.Rules.{rules}
-use lib.Dec.{ltb}
+use Rattle.std.proofs.Common.{◌∙◌, rules, ltb}
 use Rattle.hint.proofs.Windows.{high-none, high-some}
 use Rattle.hint.proofs.window.window_high.Goals as goal
 

@@ -1,6 +1,5 @@
 -- The first hint's number of windows, as the definition says.
-use borrow.Author.Rules.{rules}
-use lib.Dec.{leb}
+use Rattle.std.proofs.Common.{rules, leb}
 use Rattle.paper.specs.Hints.{window_low}
 use Rattle.hint.proofs.window.window_low.Goals as goal
 

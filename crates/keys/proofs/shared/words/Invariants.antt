@@ -1,11 +1,7 @@
--- The loop keeps that the first i bytes are common. Words that differ hold the first difference (`block_out`), equal ones are eight more in
--- common (`block_on`), and the last word once more covers the end.
-use Prim.Native.Nat.{◌-◌, ◌≤◌}
+-- The loop keeps that the words before the k-th agree.
+use Rattle.std.proofs.Common.{◌+◌, ◌*◌, ◌≤◌}
 use Rattle.keys.specs.Keys.{common}
 use Rattle.keys.proofs.shared.words.Given as goal
 
-abbrev pub invariant-loop-i : goal.invariant-loop-i
-invariant-loop-i l = (l.i ≤ l.n) × (l.i ≤ common l.a l.b)
-
-abbrev pub decreases-loop-i : goal.decreases-loop-i
-decreases-loop-i l = l.n - l.i
+abbrev pub invariant-loop-k : goal.invariant-loop-k
+invariant-loop-k l = l.from + 8 * l.k ≤ common l.a l.b

@@ -1,21 +1,7 @@
 -- One text after the other.
-use Rattle.std.proofs.Common.{arith}
 use Rattle.view.specs.Shown.{shown}
-use Rattle.listing.proofs.Decimals.{length-decimal}
 use Rattle.listing.proofs.Writing.{adds_is, adds-then, entry-words}
 use Rattle.listing.proofs.lines.entry_line.Goals as goal
-
-pub decimal-requires : goal.decimal-requires
-decimal-requires c = omega (arith, length-decimal)
-
-pub push-requires : goal.push-requires
-push-requires c = omega (arith, length-decimal)
-
-pub put_key-requires : goal.put_key-requires
-put_key-requires c = omega (arith, length-decimal)
-
-pub numbers-requires : goal.numbers-requires
-numbers-requires c = omega (arith, length-decimal)
 
 pub returns : goal.returns
 returns c =

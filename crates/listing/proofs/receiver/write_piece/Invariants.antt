@@ -1,7 +1,6 @@
--- What is done is a front of the piece, and the writer holds it behind what it held.
-use Rattle.std.proofs.Common.{◌≤◌, length, take}
-use Rattle.std.specs.Io.KnownBytes.{Appends}
+-- The rest of the piece is left to be written.
+use Rattle.listing.proofs.Telling.{Writing}
 use Rattle.listing.proofs.receiver.write_piece.Given as goal
 
 abbrev pub invariant-loop : goal.invariant-loop
-invariant-loop g l = (l.done ≤ length l.piece) × Appends (g.W.Write.contents l.initial.to) (g.W.Write.contents l.to) (take l.done l.piece)
+invariant-loop g l = Writing (g.W.Write.contents l.initial.to) (g.W.Write.contents l.to) l.piece l.rest

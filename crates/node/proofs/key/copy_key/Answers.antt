@@ -1,8 +1,7 @@
 -- The page's tests, then the slot's, then the length of its key against the buffer's; the bytes are those of `put_key`, or as they were.
-use mathlib.Core.Path.{sym, ◌∙◌}
-use native.Mathlib.Omega.{arith}
+use Rattle.std.proofs.Common.{sym, ◌∙◌}
 use Rattle.node.proofs.Entries.{open-refused}
-use Rattle.node.proofs.Copies.{size-least, prefix-most, suffix_within, copy-short, copy_done, copy_shut}
+use Rattle.node.proofs.Copies.{copy-short, copy_done, copy_shut}
 use Rattle.octets.proofs.Clauses.{named_value_out_after}
 use Rattle.paper.specs.Refusals.{refusal_of}
 use Rattle.paper.proofs.Holding.{handed_on}
@@ -11,31 +10,14 @@ use Rattle.node.proofs.key.copy_key.Goals as goal
 pub returns-in_err-admit : goal.returns-in_err-admit
 returns-in_err-admit c = rw (handed_on c.from_residual.result _ c.from_residual.ensures.1) (named_value_out_after (copy_shut _ _ _ _ _ (open-refused _ _ _ _ (sym c.admit.ensures ∙ c.in_err-admit.was))))
 
-pub open_entry-read-requires : goal.open_entry-read-requires
-open_entry-read-requires c = sym c.admit.ensures ∙ c.in_ok-admit.was
-
 pub returns-in_default : goal.returns-in_default
 unfolding refusal_of
 returns-in_default c =
     let told = c.in_default.is in
     rw (c.refusal_of.ensures, told) (named_value_out_after (copy_shut _ _ _ _ _ (sym c.open_entry-read.ensures ∙ told)))
 
-pub read_u16-prefix_len-requires : goal.read_u16-prefix_len-requires
-read_u16-prefix_len-requires c =
-    let l = size-least _ _ _ _ (sym c.open_entry-read.ensures ∙ c.in-Ok.is) in
-    omega arith
-
 pub returns-then-out-n : goal.returns-then-out-n
 returns-then-out-n c = named_value_out_after (copy-short _ _ _ _ (sym c.open_entry-read.ensures ∙ c.in-Ok.is) _ c.read_u16-prefix_len.ensures _ _ c.key_len-n.ensures c.if-out-n.true)
-
-pub put_key-requires : goal.put_key-requires
-put_key-requires c =
-    let e = sym c.open_entry-read.ensures ∙ c.in-Ok.is in (
-      size-least _ _ _ _ e,
-      prefix-most _ _ _ _ e _ c.read_u16-prefix_len.ensures,
-      rw (← c.key_len-n.ensures) c.if-out-n.false,
-      suffix_within _ _ _ _ e,
-    )
 
 pub returns : goal.returns
 returns c =

@@ -1,7 +1,6 @@
 -- The loop keeps the number in the bytes from i on. A turn, `read_turn`, takes the byte below; fewer than eight bytes leave room for it (`le-lt_7`).
 -- One proof for every width.
-use mathlib.Core.Path.{◌≡◌}
-use Prim.Native.Nat.{◌+◌, ◌-◌, ◌≤◌}
+use Rattle.std.proofs.Common.{◌≡◌, ◌+◌, ◌-◌, ◌≤◌}
 use Rattle.octets.specs.Bytes.{le}
 use Rattle.octets.proofs.value.read_narrow.Given as goal
 

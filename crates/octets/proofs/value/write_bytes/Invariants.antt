@@ -1,6 +1,5 @@
 -- The loop keeps what is left to put: the bytes of the running quotient from the place of the next byte on. A turn is `write_turn`.
-use mathlib.Core.Path.{◌≡◌}
-use Prim.Native.Nat.{◌-◌}
+use Rattle.std.proofs.Common.{◌≡◌, ◌-◌}
 use Rattle.octets.specs.Bytes.{bytes, put}
 use Rattle.octets.proofs.value.write_bytes.Given as goal
 

@@ -1,6 +1,6 @@
 -- Each refusal is the case that its tests picked; where they hold, the verdict decides.
-use mathlib.Core.Path.{sym, ◌∙◌}
-use borrow.Author.Tests.{lt-leb, eq-eqb, ne_eqb}
+use Rattle.std.proofs.Common.{sym, ◌∙◌, eq-eqb, ne_eqb}
+use borrow.Author.Tests.{lt-leb}
 use Rattle.paper.specs.Refusals.{judge}
 use Rattle.verdict.specs.Fits.{fit_admit_of}
 use Rattle.verdict.proofs.Fitness.{fit-tests}

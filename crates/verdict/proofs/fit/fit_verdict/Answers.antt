@@ -1,5 +1,5 @@
 -- Each refusal is the case that its tests picked; else what the header says is the page's verdict.
-use borrow.Author.Tests.{eq-eqb, ne_eqb}
+use Rattle.std.proofs.Common.{eq-eqb, ne_eqb}
 use Rattle.paper.specs.Refusals.{judge}
 use Rattle.paper.specs.Calls.{fit_verdict}
 use Rattle.verdict.proofs.Fitness.{found}
@@ -15,10 +15,4 @@ returns-then-not-known_width c = rw (eq-eqb _ _ c.if-p-ne16384.false, ← c.know
 
 pub returns : goal.returns
 unfolding fit_verdict judge
-returns c =
-    rw (
-      eq-eqb _ _ c.if-p-ne16384.false,
-      ← c.known_width.ensures,
-      c.if-not-known_width.false,
-      ← found _ _ _ c.first_broken.ensures,
-    )
+returns c = rw (eq-eqb _ _ c.if-p-ne16384.false, ← c.known_width.ensures, c.if-not-known_width.false, ← found, ← c.first_broken.ensures, ← c.unwrap_or.ensures)

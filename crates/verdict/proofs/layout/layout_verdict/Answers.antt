@@ -1,5 +1,5 @@
 -- Each refusal is the case that its tests picked; else what the header says is the page's verdict.
-use borrow.Author.Tests.{eq-eqb, ne_eqb}
+use Rattle.std.proofs.Common.{eq-eqb, ne_eqb}
 use Rattle.paper.specs.Refusals.{judge}
 use Rattle.paper.specs.Calls.{layout_verdict}
 use Rattle.verdict.proofs.Fitness.{layout_is}
@@ -21,6 +21,5 @@ returns c =
       ← c.known_width.ensures,
       c.if-not-known_width.false,
       layout_is,
-      ← c.read_header.ensures,
       ← c.layout_right.ensures,
     )

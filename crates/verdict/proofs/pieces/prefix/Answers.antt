@@ -1,9 +1,6 @@
 -- Both numbers are those of the definition.
-use mathlib.Core.Path.{refl}
+use Rattle.std.proofs.Common.{refl}
 use Rattle.paper.specs.Verdicts.{prefix_piece}
-use Rattle.verdict.proofs.pieces.prefix.Reads as reads
-use Rattle.verdict.proofs.pieces.prefix.Lts as lts
-use Rattle.node.proofs.space.body_bytes.Reads as body-bytes-reads
 use Rattle.verdict.proofs.pieces.prefix.Goals as goal
 
 pub returns : goal.returns

@@ -1,7 +1,5 @@
 -- Where both tests are true, each pair of words is eight bytes more in common (`block_on`).
-use Prim.Native.Nat.{◌+◌}
-use native.Mathlib.Omega.{arith}
-use borrow.Author.Tests.{eqb-true}
+use Rattle.std.proofs.Common.{◌+◌, arith, eqb-true}
 use Rattle.octets.specs.Bytes.{IsBytes}
 use Rattle.paper.proofs.Lists.{both_parts}
 use Rattle.keys.proofs.Words.{block_on}

@@ -1,6 +1,5 @@
 -- The first words that differ decide; the second are looked at where the first are alike.
-use Prim.Native.Nat.{◌+◌}
-use native.Mathlib.Omega.{arith}
+use Rattle.std.proofs.Common.{◌+◌, arith}
 use Rattle.octets.specs.Bytes.{IsBytes}
 use Rattle.keys.proofs.Words.{word_on}
 use Rattle.verdict.proofs.Suffixes.{word-less}

@@ -1,5 +1,5 @@
 -- Heads that differ decide, then lengths where a suffix lives in its head, then bytes.
-use native.Mathlib.Omega.{arith}
+use Rattle.std.proofs.Common.{arith}
 use Rattle.verdict.proofs.Suffixes.{below-heads, below-short, below-long}
 use Rattle.verdict.proofs.suffix.below.Goals as goal
 
@@ -15,8 +15,3 @@ pub returns-then-b-le4 : goal.returns-then-b-le4
 returns-then-b-le4 c =
     below-long _ (λ k. (c.type_inv.p k).fits) _ _ (omega arith) (omega arith) c.requires.0.faithful c.requires.1.faithful
     c.requires.0.room c.requires.1.room c.if-a-b.false c.if-a-le4.false c.if-b-le4.true
-
-pub bytes_below-requires : goal.bytes_below-requires
-bytes_below-requires c =
-    let long = c.if-a-le4.false in
-    (long, c.if-b-le4.false, c.requires.0.room long, c.requires.1.room c.if-b-le4.false)

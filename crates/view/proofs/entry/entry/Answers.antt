@@ -1,6 +1,5 @@
 -- The page's tests, and the length of the key against the buffer's; and the value, read as every entry read reads it.
-use mathlib.Core.Path.{sym, ◌∙◌}
-use native.Mathlib.Omega.{arith}
+use Rattle.std.proofs.Common.{sym, ◌∙◌, arith}
 use Rattle.paper.proofs.Holding.{handed_on}
 use Rattle.view.proofs.Entering.{shown_none, kept_none, shown-short, kept-short, shown-done}
 use Rattle.view.proofs.entry.entry.Goals as goal

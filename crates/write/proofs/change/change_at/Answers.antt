@@ -1,5 +1,5 @@
 -- The header that came back is the changed page's, so its flag and count are those that the refresh goes by.
-use native.Mathlib.Omega.{arith}
+use Rattle.std.proofs.Common.{arith}
 use Rattle.paper.specs.Edits.{key_changed}
 use Rattle.write.proofs.Filings.{refresh_by}
 use Rattle.write.proofs.Rekeys.{rekeyed-slots, rekey-header}

@@ -1,5 +1,5 @@
 -- The value is read before its bytes are written over; then payload and slot, one after the other.
-use native.Mathlib.Nat.{add-zero}
+use Rattle.std.proofs.Common.{add-zero}
 use Rattle.octets.proofs.Put.{put_rest}
 use Rattle.write.proofs.Rekeys.{value_is}
 use Rattle.write.proofs.change.put_key.Goals as goal

@@ -1,5 +1,6 @@
 -- The source's prefix and suffix without the destination's prefix are the two pieces.
-use native.Mathlib.Omega.{arith}
+use Rattle.std.proofs.Common.{arith}
+use Rattle.node.proofs.Spelling.{suffix-room}
 use Rattle.write.proofs.Recuts.{entry-within, entry-value, cut-is, cut-room}
 use Rattle.write.proofs.copy.append.Goals as goal
 
@@ -9,7 +10,7 @@ read_value-value-requires c = rw c.value_at.ensures (entry-within _ _ _ _ c.args
 pub suffix-requires : goal.suffix-requires
 suffix-requires c =
     let within = entry-within _ _ _ _ c.args.source.now.readable _ c.read_slot-s.ensures c.requires.there in
-    (omega arith, c.head_bytes-four.ensures)
+    ((λ l. suffix-room _ _ _ l (omega arith)), c.head_bytes-four.ensures)
 
 pub cut-cut-requires : goal.cut-cut-requires
 cut-cut-requires c = cut-room _ _ _ _ c.args.source.now.readable _ c.read_slot-s.ensures c.args.h _ _ c.prefix.ensures c.suffix.ensures _ c.requires.room

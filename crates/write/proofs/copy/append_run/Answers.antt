@@ -1,5 +1,4 @@
-use mathlib.Core.Path.{sym, ◌∙◌}
-use native.Mathlib.Omega.{arith}
+use Rattle.std.proofs.Common.{sym, ◌∙◌, arith}
 use Rattle.write.proofs.Appends.{turn-room, turn-ready, turn-page, run_done}
 use Rattle.write.proofs.copy.append_run.Goals as goal
 

@@ -1,6 +1,5 @@
 -- What is left of the run, appended to the page as it is now, is the whole run appended to the page as it was.
-use Prim.Native.Nat.{◌-◌}
-use mathlib.Core.Path.{◌≡◌}
+use Rattle.std.proofs.Common.{◌-◌, ◌≡◌}
 use Rattle.paper.specs.Calls.{run}
 use Rattle.paper.specs.Edits.{appended}
 use Rattle.write.specs.Room.{Ready}

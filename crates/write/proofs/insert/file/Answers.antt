@@ -1,5 +1,5 @@
 -- Payload, slot and numbers written one after the other are the paper's page.
-use native.Mathlib.Nat.{add-zero}
+use Rattle.std.proofs.Common.{add-zero}
 use Rattle.octets.proofs.Put.{put_rest}
 use Rattle.write.proofs.Filings.{file-written}
 use Rattle.write.proofs.insert.file.Goals as goal

@@ -1,6 +1,5 @@
 -- A suffix that the body holds is no longer than a slot can say.
-use native.Mathlib.Omega.{arith}
-use lib.ListN.{length}
+use Rattle.std.proofs.Common.{arith, length}
 use Rattle.paper.proofs.Same.{le-body_bytes}
 use Rattle.write.proofs.insert.file_at.Goals as goal
 

@@ -1,5 +1,5 @@
 -- The header that was read has the room; the one that came back is the filed page's, so its flag and count are those that the refresh goes by.
-use native.Mathlib.Omega.{arith}
+use Rattle.std.proofs.Common.{arith}
 use Rattle.paper.specs.Edits.{inserted}
 use Rattle.write.proofs.Filings.{room_read, filed-slots, file-header, refresh_by}
 use Rattle.write.proofs.insert.insert_at.Goals as goal

@@ -1,5 +1,5 @@
 -- The value's place is read off the slot, then its bytes are written.
-use native.Mathlib.Omega.{arith}
+use Rattle.std.proofs.Common.{arith}
 use Rattle.paper.specs.Edits.{value_set}
 use Rattle.paper.specs.Page.{slot_of}
 use Rattle.write.proofs.Rekeys.{value-within}

@@ -3,13 +3,9 @@ use Rattle.std.proofs.Common.{◌≡◌, ◌≤◌, arith, rules, subst}
 use Rattle.listing.specs.Texts.{lines_text}
 use Rattle.listing.proofs.Writing.{adds_is, adds-size, suffix-most, value_is}
 use Rattle.listing.proofs.Joined.{lines-more, lines-rest, line_is, row_held}
-use Rattle.listing.proofs.Going.{Gone, gone-none, gone-adds, gone-all, gone-on, gone-stops, stops-in, on_ok, on_err, failed}
+use Rattle.listing.proofs.Going.{Gone, gone-adds, gone-all, gone-on, gone-stops, stops-in, on_ok, on_err, failed}
 use Rattle.listing.proofs.print.Page.print_entries.Goals as goal
 use Rattle.listing.proofs.print.Page.print_entries.Goals.{then-room-lt65100+in_ok-take, else-room-lt65100}
-
-pub loop-i-init : goal.loop-i-init
-unfolding lines_text
-loop-i-init g c = (gone-none _ _ _ (g.met.T.Receiver.takes_none _) c.clear.ensures.0, omega arith)
 
 pub returns-in_err-take-clause-left : goal.returns-in_err-take-clause-left
 returns-in_err-take-clause-left g c =

@@ -1,5 +1,5 @@
 -- The record with one field changed is the definition's.
-use borrow.Author.Rules.{rules}
+use Rattle.std.proofs.Common.{rules}
 use Rattle.paper.specs.Headers.{with_count}
 use Rattle.paper.proofs.page.Header.with_count.Goals as goal
 

@@ -1,5 +1,5 @@
 -- What is shown is the slot's key.
-use mathlib.Core.Path.{refl}
+use Rattle.std.proofs.Common.{refl}
 use Rattle.node.proofs.Spelling.{length-prefix_of}
 use Rattle.view.specs.declared.key.KeyView.{KeyView}
 use Rattle.view.proofs.Paged.{shows-key, shows-size}

@@ -1,5 +1,5 @@
 -- Four bytes, the highest first.
-use native.Mathlib.Omega.{arith}
+use Rattle.std.proofs.Common.{arith}
 use Rattle.keys.specs.Keys.{head_of}
 use Rattle.octets.proofs.Big.{be_four}
 use Rattle.write.proofs.suffix.Suffix.head.Goals as goal

@@ -1,7 +1,5 @@
 -- A short suffix takes no byte; a long one is written piece after piece.
-use mathlib.Core.Path.{sym, ◌∙◌}
-use native.Mathlib.Omega.{arith}
-use lib.ListN.{length}
+use Rattle.std.proofs.Common.{sym, ◌∙◌, arith, length}
 use Rattle.paper.proofs.Same.{body_bytes_short, body_bytes_long}
 use Rattle.write.proofs.Joins.{long_room, both_written}
 use Rattle.write.proofs.Writes.{short_written}
