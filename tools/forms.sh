@@ -40,7 +40,7 @@ echo '6 buffers with a length or a place beside them'
 count 'a buffer and a place in it' 'out: &mut \[u8\], at: usize|buffer: &mut \[u8\], at: usize'
 count 'registers and runs by place' 'length store\.(now|old) ≡ 328016|wire::front\(|&(probe|key)\[\.\.n\]'
 echo '7 switches on a step'
-count 'which call is asked for' 'q\.call (==|<=)|<= q\.call'
+count 'which call is asked for' 'q\.call (==|<=)|<= q\.call|^ *Call::[A-Za-z]+ =>'
 echo '8 proofs'
 proofs 'files of answers' Answers.antt
 proofs 'files of invariants' Invariants.antt

@@ -43,6 +43,7 @@ impl Session {
     }
 
     // Answers the request that was received last.
+    // One arm for each call: each has arguments and an answer of its own, so that closures would be the same lines.
     pub(crate) fn answer(&mut self, q: Request) -> Result<Reply<'_>, Broken> {
         let Session {
             registers,
@@ -177,6 +178,7 @@ fn space_bytes(s: Space) -> [u8; 56] {
 }
 
 // Two sums over all bytes, the first in the upper 32 bits and the second in the lower.
+// The listing sums a text alike, but only within its crate, and `ask` does not rest on that crate.
 fn digest(bytes: &[u8]) -> u64 {
     let mut h1: u64 = 0;
     let mut h2: u64 = 0;

@@ -9,6 +9,7 @@ use std::marker::Model;
 // How many bytes a run has room for.
 pub(crate) const ROOM: usize = 82000;
 
+// The bytes have a length beside them since there is no heap: the memory is fixed.
 #[derive(Drop)]
 pub(crate) struct Run {
     bytes: [u8; ROOM],

@@ -1,4 +1,4 @@
-// The child of a probe.
+// The child of a probe. Page and header stay two parameters, with what the fit test found as clauses: only two functions take them.
 ghost use Rattle.std.specs.Prelude.{◌≡◌, ◌*◌, ◌≤◌, length};
 ghost use Rattle.paper.specs.Page.{numbers_of, header_of};
 ghost use Rattle.paper.specs.Verdicts.{fit_of};
@@ -42,7 +42,7 @@ fn child_with(p: &[u8], h: Header, key: &[u8]) -> Result<Child, Refusal>
     requires { (length p.now ≡ 16384) × (fit_of 8 p.now ≡ 0) × (h ≡ header_of p.now) }
     ensures { result ≡ child_with p.now key.now }
 {
-    if probe::class(p, h.prefix_len, key) != 1 {
+    if !probe::within(p, h.prefix_len, key) {
         return Err(Refusal::Prefix);
     }
     let suffix = probe::suffix(p, key);

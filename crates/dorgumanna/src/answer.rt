@@ -172,7 +172,7 @@ impl Values for Forecast {
     }
 }
 
-// A sign, a slot number, or -1, in two's complement of 64 bits.
+// A sign, a slot number, or -1, in two's complement of 64 bits, as `word` defines it: no conversion of std's stands for that.
 fn signed_word(n: i32) -> u64
     ensures { result ≡ word n }
 {

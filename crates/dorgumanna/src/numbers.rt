@@ -1,4 +1,4 @@
-// Refusals as the numbers of document 01's table.
+// Refusals as the numbers of document 01's table; two of them carry a number, so no cast of the enum gives it.
 ghost use Rattle.std.specs.Prelude.{◌≡◌};
 ghost use Rattle.paper.specs.Refusals.{number_of, carried_by};
 

@@ -1,4 +1,5 @@
-// The static library: every call as a C function. A lent slice is a pointer and a length.
+// The static library: every call as a C function. A lent slice is a pointer and a length. Each is a line over its namesake in
+// `dorgumanna::calls`, since an exported function cannot be generic, and a crate is a library or a static library.
 #![tactic(auto)]
 
 ghost use Rattle.std.specs.Prelude.{◌≡◌, true, false};

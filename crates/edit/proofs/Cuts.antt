@@ -1,11 +1,9 @@
 -- A key in two pieces against another key, a slot, a prefix and the fences: what a piece at a time says. Assumes nothing.
-use Rattle.std.proofs.Common.{◌≡◌, refl, sym, ap, ◌∙◌, ⊎_elim, Bool, true, false, List, [], ◌∷◌, ◌++◌, append-nil, ℕ, ◌+◌, ◌-◌, ◌≤◌, ◌<◌, min, arith, eqb, length, take, drop, length-take, length-drop, take-append-drop, take_all, Ok, Err}
+use Rattle.std.proofs.Common.{◌≡◌, refl, sym, ap, ◌∙◌, Bool, true, false, List, [], ◌∷◌, ◌++◌, append-nil, ℕ, ◌+◌, ◌-◌, ◌≤◌, min, arith, eqb, length, take, drop, length-take, length-drop, take-append-drop, take_all, Ok, Err}
 use native.Mathlib.Decide.{dec_le}
 use lib.Seq.{take-append-le, take-append-add}
 use Rattle.keys.specs.Choice.{both}
-use Rattle.keys.specs.Keys.{begins, by_number, order, common, same_list}
-use Rattle.keys.proofs.Numbers.{alike?, by_number_eq, by_number_ne}
-use Rattle.keys.proofs.Prefixes.{common_eq, common_ne, common-le}
+use Rattle.keys.specs.Keys.{begins, same_list}
 use Rattle.paper.specs.Page.{prefix_of, frame_of, header_of}
 use Rattle.paper.specs.Verdicts.{inside}
 use Rattle.paper.specs.Refusals.{judge}
@@ -26,44 +24,6 @@ pub lt_reverse : (o : Ordering) → is_gt o ≡ is_lt (ordering_reverse o)
 lt_reverse Less = refl
 lt_reverse Equal = refl
 lt_reverse Greater = refl
-
--- ---- the order of two pieces a and b and a key x
--- the first piece decides where it is not the front of x
-order_lead : (a b x : List ℕ) → common a x < length a → order (a ++ b) x ≡ order a x
-unfolding order common
-order_lead [] b x h = absurd (omega arith)
-order_lead (y ∷ a) b [] h = refl
-order_lead (y ∷ a) b (z ∷ x) h =
-    let next = order_lead a b x in
-    ⊎_elim (λ e. ap (by_number y z) (next (omega (arith, common_eq y z a x e)))) (λ e. by_number_ne y z (order (a ++ b) x) (order a x) e) (alike? y z)
-
--- else the second one
-order-rest : (a b x : List ℕ) → length a ≤ common a x → order (a ++ b) x ≡ order b (drop (length a) x)
-unfolding order common
-order-rest [] b x h = refl
-order-rest (y ∷ a) b [] h = absurd (omega arith)
-order-rest (y ∷ a) b (z ∷ x) h =
-    let next = order-rest a b x in
-    ⊎_elim (λ e. by_number_eq y z (order (a ++ b) x) e ∙ next (omega (arith, common_eq y z a x e))) (λ e. absurd (omega (arith, common_ne y z a x e))) (alike? y z)
-
--- n is what the first piece and x share, o what was found
-module _ (a b x : List ℕ) (n : ℕ) (e : n ≡ common a x) (o : Ordering) where
-  pub two-lead : n < length a → o ≡ order a x → o ≡ order (a ++ b) x
-  two-lead h f = f ∙ sym (order_lead a b x (omega (arith, e)))
-
-  pub two-rest : length a ≤ n → o ≡ order b (take (length x - n) (drop n x)) → o ≡ order (a ++ b) x
-  two-rest h f =
-      let l = common-le a x in
-      let k : n ≡ length a = omega (arith, e) in
-      f
-      ∙ ap (order b) (take_all (length x - n) (drop n x) (rw length-drop (omega arith)))
-      ∙ ap (λ (i : ℕ). order b (drop i x)) k
-      ∙ sym (order-rest a b x (omega (arith, e)))
-
-pub two_within : (a x : List ℕ) (n : ℕ) → n ≡ common a x → n ≤ length x
-two_within a x n e = omega (arith, e, (common-le a x).1)
-
-pub ruleset by_pieces = (two-lead, two-rest, two_within)
 
 -- ---- lists in two pieces
 same_two : (a b x y : List ℕ) → length a ≡ length x → same_list (a ++ b) (x ++ y) ≡ both (same_list a x) (same_list b y)

@@ -28,7 +28,7 @@ use Rattle.paper.proofs.CopyingFit.{prefix_whole}
 use Rattle.node.proofs.Spelling.{length-prefix_of, length-suffix_of, length_four, suffix-short}
 use Rattle.search.specs.Fence.{LongLies}
 use Rattle.edit.specs.RunTests.{Shown, Fenced, Meeting, standing, standing_from, passes_last, needs_from}
-use Rattle.edit.proofs.Cuts.{gone-is, whole_length, cut-within, stands-unlike, stands-lacks, stands-outside, stands-done}
+use Rattle.edit.proofs.Cuts.{gone-is, whole_length}
 use Rattle.std.specs.Ordering.{is_lt}
 
 -- ---- what was read of the source
@@ -69,6 +69,17 @@ length-key q l Q j h =
 pub key-read : (q : List ℕ) (j : ℕ) (P : List ℕ) → P ≡ (frame_of q).prefix → (s : Slot) → s ≡ slot_at q (place j) → (S : List ℕ) → S ≡ suffix_of q s → P ++ S ≡ key_at q (slot_of q j)
 unfolding key_at slot_of
 key-read q j P f s g S k = rw (f, k, g)
+
+-- whose pieces are no more than what a slot can hold
+pub key_most : (q P : List ℕ) → Shown q (length P) → (j : ℕ) → j < (numbers_of q).count → (s : Slot) → s ≡ slot_at q (place j) → (S : List ℕ) → S ≡ suffix_of q s → (g : ℕ)
+    → length P + length S ≤ 65535 + g
+key_most q P Q j h s e S k g =
+    let lies = slot_lies q (length P) Q j h s e in
+    rw (k, long_suffix_lem q s lies) (go lies (dec_le s.len 4))
+  where
+    go : LongLies (length q) s → Dec (s.len ≤ 4) → length P + s.len ≤ 65535 + g
+    go lies (yes l) = omega (arith, Q.most)
+    go lies (no l) = omega (arith, Q.most, Q.size, lies (omega arith), body_bytes_long 4 s.len (omega arith))
 
 -- ---- 8 and 9: one turn
 module _ (p q : List ℕ) (j e : ℕ) (lt : j < e) where
@@ -205,8 +216,6 @@ module _ (w : ℕ) (q : List ℕ) where
     above-run (suc n) a z h =
         rw (run-first a n (omega arith), length-map (listing w p) (λ (x : Entry). x.key), length-listing w p)
         (⊎_elim (λ e. rw (eq-eqb (numbers_of p).count 0 e)) (λ e. rw (ne_eqb (numbers_of p).count 0 e, keys-last e)) (alike? (numbers_of p).count 0))
-
-pub ruleset by_keys = (slot_lies, key-read, cut-within, stands-unlike, stands-lacks, stands-outside, stands-done)
 
 pub ruleset by_last = (slot_lies, key-read, last_none, last_within, last-lies, last-passed)
 

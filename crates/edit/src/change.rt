@@ -1,8 +1,9 @@
-// Change key. Page, header and width stay parameters for the reason that stands in insert.rt.
-ghost use Rattle.std.specs.Prelude.{◌≡◌, true, ◌+◌, ◌*◌, ◌≤◌, length};
+// Change key.
+// Page, header and width stay parameters for the reason that stands in insert.rt.
+ghost use Rattle.std.specs.Prelude.{◌≡◌, ◌+◌, ◌*◌, ◌≤◌, length};
 ghost use Rattle.paper.specs.Page.{header_of};
-ghost use Rattle.paper.specs.Verdicts.{fit_of};
-ghost use Rattle.paper.specs.Calls.{is_width, room_for_key, change_of, change_page};
+ghost use Rattle.paper.specs.Calls.{room_for_key, change_of, change_page};
+ghost use Rattle.edit.specs.Tested.{Tested};
 ghost use Rattle.edit.specs.Changed.{change_with, page_with};
 
 use crate::neighbours;
@@ -28,10 +29,10 @@ fn has_room(p: &[u8], h: Header, width: u8, i: usize, suffix: &[u8]) -> bool
 // Whether slot `i` of a page that is fit and has this header may take the key. Refuses 8, 9, 10, 12, 13.
 #[tactic(auto, using(crate::proofs::Changes::by_tests))]
 fn judge(p: &[u8], h: Header, width: u8, i: usize, key: &[u8]) -> Result<(), Refusal>
-    requires { (length p.now ≡ 16384) × (fit_of width p.now ≡ 0) × (h ≡ header_of p.now) }
+    requires { Tested width p.now (length key.now) × (h ≡ header_of p.now) }
     ensures { result ≡ change_with width p.now i key.now }
 {
-    if probe::class(p, h.prefix_len, key) != 1 {
+    if !probe::within(p, h.prefix_len, key) {
         return Err(Refusal::Prefix);
     }
     let suffix = probe::suffix(p, key);
@@ -52,7 +53,7 @@ fn judge(p: &[u8], h: Header, width: u8, i: usize, key: &[u8]) -> Result<(), Ref
 
 // The call on a page that is fit and has this header: judged, then written.
 fn change_fit(p: &mut [u8], h: Header, width: u8, i: usize, key: &[u8]) -> Result<(), Refusal>
-    requires { (length p.old ≡ 16384) × (is_width width ≡ true) × (fit_of width p.old ≡ 0) × (h ≡ header_of p.old) × (length key.now ≤ 65535) }
+    requires { Tested width p.old (length key.now) × (h ≡ header_of p.old) }
     ensures value { result ≡ change_with width p.old i key.now }
     ensures p_after { p.new ≡ page_with width p.old i key.now }
 {

@@ -6,16 +6,17 @@ ghost use Rattle.paper.specs.Verdicts.{fit_of};
 ghost use Rattle.paper.specs.Calls.{is_width, has_prefix, key_at, run_of, run_page};
 ghost use Rattle.edit.specs.RunTests.{Shown, Fenced, Meeting, standing, standing_from, passes_last, needs_from, run_judged, run_written};
 
-use crate::cut::Pieces;
-use keys::shared;
+use crate::cut;
 use node::{admit, header, key, space};
 use paper::page::Header;
 use paper::refusal::Refusal;
 use verdict::fit;
 use write::copy;
+use write::suffix::Suffix;
 
 // Two pages whose keys can be read, on the way from `source` to `page`: the header of the one and the prefix of the other. `cut` is the
 // length of the shorter of both pages' prefixes, and `alike` says whether the two are the same that far.
+// Both are kept, not an option of what is left: `Meeting` says what each is, whichever way the prefixes stand.
 #[derive(Drop)]
 struct Run<'a> {
     page: &'a [u8],
@@ -39,7 +40,7 @@ impl<'a> Run<'a> {
         let prefix = key::prefix(source, prefix_len);
         let whole = key::prefix(page, header.prefix_len);
         let cut = whole.len().min(prefix.len());
-        let alike = shared::equal(&prefix[..cut], &whole[..cut]);
+        let alike = prefix[..cut] == whole[..cut];
         Run {
             page,
             header,
@@ -51,7 +52,7 @@ impl<'a> Run<'a> {
     }
 
     // 8 and 9 for entry `j` of the source.
-    #[tactic(auto, using(crate::proofs::RunKeys::by_keys))]
+    #[tactic(auto, using(crate::proofs::RunKeys::slot_lies))]
     fn stands(&self, j: usize) -> Result<(), Refusal>
         requires { j < (numbers_of self.now.source.now).count }
         ensures { result ≡ standing self.now.page.now (key_at self.now.source.now (slot_of self.now.source.now j)) }
@@ -63,10 +64,11 @@ impl<'a> Run<'a> {
         let four = key::head_bytes(s.head);
         let suffix = key::suffix(self.source, s, &four);
         let whole = key::prefix(self.page, self.header.prefix_len);
-        if !shared::begins_with(suffix, &whole[self.cut..]) {
+        if !suffix.starts_with(&whole[self.cut..]) {
             return Err(Refusal::Prefix);
         }
-        if !Pieces::cut(self.prefix, suffix, whole.len()).inside(self.page, self.header) {
+        let rest = Suffix::cut(self.prefix, suffix, whole.len());
+        if !cut::inside(&rest, self.page, self.header) {
             return Err(Refusal::OutsideFences);
         }
         Ok(())
@@ -98,7 +100,8 @@ impl<'a> Run<'a> {
         let four = key::head_bytes(s.head);
         let suffix = key::suffix(self.source, s, &four);
         let gone = self.header.prefix_len as usize;
-        Pieces::cut(self.prefix, suffix, gone).above(self.page, last)
+        let rest = Suffix::cut(self.prefix, suffix, gone);
+        cut::above(&rest, self.page, last)
     }
 
     // What entry `j` of the source needs on the page.
@@ -155,7 +158,7 @@ impl<'a> Run<'a> {
 }
 
 // Two pages that are fit and have these headers: judged, and then the entries are written.
-// They stay parameters: the run that judges only reads the page that is written here.
+// Pages and headers stay parameters: the run that judges only reads the page that is written here. No key comes in, so no `Tested`.
 fn copy_fit(
     p: &mut [u8],
     h: Header,
@@ -176,7 +179,8 @@ fn copy_fit(
 }
 
 // Appends entries `a` to `a + n` of the page `q` to the page `p`, their keys cut anew under `p`'s prefix. Refuses 1, 2, 5 (`p` before `q`), 10,
-// then entry by entry 8, 9, then 12, 13; a refusal leaves `p` as it was.
+// then entry by entry 8, 9, then 12, 13; a refusal leaves `p` as it was. 1 and 2 are written out: `fit::admit_fit` of `p` would refuse 5 of `p`
+// before 1 of `q`.
 pub fn copy_run(p: &mut [u8], q: &[u8], width: u8, a: usize, n: usize) -> Result<(), Refusal>
     ensures value { result ≡ run_of width p.old q.now a n }
     ensures p_after { p.new ≡ run_page width p.old q.now a n }

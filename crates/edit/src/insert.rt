@@ -1,5 +1,6 @@
 // Insert: an entry filed where its key belongs.
 // Page, width and key stay parameters with `Tested`: a struct that lends the page to a write would owe its fit again after the write.
+// Functions that only read take them so too: they hand page and width on to others that do, and the facts are the one predicate.
 ghost use Rattle.std.specs.Prelude.{◌≡◌, ◌≤◌, length, Ok};
 ghost use Rattle.paper.specs.Calls.{insert_of, insert_page};
 ghost use Rattle.edit.specs.Tested.{Tested};

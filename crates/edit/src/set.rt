@@ -1,4 +1,5 @@
 // Set value: the value of a key replaced where the old one is as expected.
+// Page, width, key and both values stay parameters for the reason that stands in insert.rt.
 ghost use Rattle.std.specs.Prelude.{◌≡◌, ◌+◌, ◌*◌, ◌≤◌, length};
 ghost use Rattle.paper.specs.Page.{slot_of};
 ghost use Rattle.paper.specs.Space.{payload_bytes};
@@ -41,7 +42,7 @@ fn find_held(p: &[u8], width: u8, key: &[u8], expected: u64, new: u64) -> Result
     if !values::fits_width(width, new) {
         return Err(Refusal::ValueRange);
     }
-    if probe::class(p, number::read_u16(p, 46), key) != 1 {
+    if !probe::within(p, number::read_u16(p, 46), key) {
         return Err(Refusal::Prefix);
     }
     let found = find::find_at(p, width, probe::suffix(p, key))?;

@@ -1,4 +1,4 @@
-// Values.
+// Values. A width is a number, 0, 1 or 8, as document 01 has it.
 ghost use Rattle.std.specs.Prelude.{◌≡◌, true};
 ghost use Rattle.paper.specs.Calls.{is_width, fits_width};
 

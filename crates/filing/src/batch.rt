@@ -34,7 +34,8 @@ fn file_one(p: &mut [u8], width: u8, key: &[u8], value: u64) -> Result<usize, Re
     insert::insert_fit(p, width, key, value)
 }
 
-// The records one after the other, up to the first one refused; the page is left as the inserts before that leave it.
+// The records one after the other, up to the first one refused; the page is left as the inserts before that leave it. How many were filed
+// is the answer, so it is counted.
 fn file_all(p: &mut [u8], width: u8, records: Records<'_>) -> Result<usize, NotFiled>
     requires { Standing width p.old }
     ensures value { result ≡ fold_from 0 width p.old (records_of records.entry.left.now) }

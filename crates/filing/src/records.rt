@@ -47,6 +47,7 @@ pub(crate) struct Records<'b> {
 }
 
 impl<'b> Records<'b> {
+    // All records of a buffer of whole ones.
     pub(crate) fn of(b: &'b [u8]) -> Records<'b>
         requires { holds_records b.now ≡ true }
         ensures { result.left.now ≡ b.now }

@@ -1,4 +1,5 @@
 // The order of two keys, and of two numbers.
+// std's `cmp` under names whose promise is the paper's definition; other crates and programs call them.
 #![tactic(auto, using(crate::proofs::Methods::comparing))]
 
 ghost use Rattle.std.specs.Prelude.{◌≡◌};

@@ -1,5 +1,6 @@
 // What two keys share: the length of their longest common prefix, whether they are equal, whether one begins with the
 // other, and their order.
+// The last three are std's methods under names whose promise is the paper's definition; other crates call them.
 #![tactic(auto, using(crate::proofs::Methods::comparing))]
 
 ghost use Rattle.std.specs.Prelude.{◌≡◌, ◌+◌, ◌≤◌, leb, length};
@@ -111,7 +112,7 @@ pub fn begins_with(a: &[u8], b: &[u8]) -> bool
     a.starts_with(b)
 }
 
-// How `a` stands to `b`: behind what they share the next bytes decide, and a key that has none is below.
+// How `a` stands to `b`; a search that halves calls `order::compare` itself, so that it melts into the loop.
 pub fn order_by_shared(a: &[u8], b: &[u8]) -> Ordering
     ensures { result ≡ order a.now b.now }
 {

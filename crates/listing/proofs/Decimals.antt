@@ -1,6 +1,8 @@
 -- Decimal digits one at a time, from the last; hex digits a byte at a time, from the first. Assumes nothing.
-use Rattle.std.proofs.Common.{◌≡◌, refl, sym, ap, ◌∙◌, List, [], ◌∷◌, ◌++◌, append_assoc, ℕ, zero, suc, ◌+◌, ◌*◌, ◌/◌, ◌%◌, ◌^◌, ◌≤◌, ◌<◌, pow-suc, add-one, arith, lt-ltb, le-ltb, length, get_or, set, take, drop, length-append, length-set, drop_of_length-le, drop-cons, take_all, take-suc, take-suc-set}
+use Rattle.std.proofs.Common.{◌≡◌, refl, sym, ap, ◌∙◌, Bool, true, false, List, [], ◌∷◌, ◌++◌, append_assoc, ℕ, zero, suc, ◌+◌, ◌*◌, ◌/◌, ◌%◌, ◌^◌, ◌≤◌, ◌<◌, pow-suc, add-one, arith, lt-ltb, le-ltb, length, get_or, set, take, drop, length-append, length-set, drop_of_length-le, drop-cons, take_all, take-suc, take-suc-set}
 use native.Mathlib.Decide.{dec_lt}
+use mir.Val.{bool_byte}
+use Rattle.keys.specs.Choice.{pick}
 use Rattle.listing.specs.Line.{Line, Adds}
 use Rattle.listing.proofs.Writing.{adds-then, hex-append, length-hex, key-none, left-all, left-done}
 use Rattle.paper.specs.Printed.{decimal_in, decimal, number_words, hex_digit, hex_bytes}
@@ -84,8 +86,13 @@ module _ (l : List ℕ) (j : ℕ) where
   unfolding number_words
   words-done h = rw (drop_of_length-le l h)
 
+-- ---- a truth as a number
+pub as_number : (b : Bool) → bool_byte b ≡ pick b 1 0
+as_number true = refl
+as_number false = refl
+
 -- ---- what the functions ask
-pub ruleset lined = (adds-then, length-decimal)
+pub ruleset lined = (adds-then, length-decimal, as_number)
 
 pub ruleset keyed = (length-hex, key-none, length-append)
 

@@ -1,7 +1,7 @@
 -- The pieces that a receiver takes, one after the other, are the paper's text; and what a fit page gives the functions that list it. Assumes nothing.
 use Rattle.std.proofs.Common.{◌≡◌, refl, sym, ap, ◌∙◌, Bool, true, false, List, [], ◌∷◌, ◌++◌, map, append-nil, append_assoc, ℕ, zero, suc, ◌+◌, ◌*◌, ◌-◌, ◌≤◌, ◌<◌, zero-add, add-zero, suc-add, arith, eq-eqb, ne_eqb, length, get_or, take, drop, length-drop, take_all}
+use Rattle.std.proofs.lemmas.Bool.{both_ways}
 use native.Mathlib.Decide.{dec_le}
-use Rattle.keys.specs.Choice.{pick}
 use Rattle.paper.specs.Lists.{tab}
 use Rattle.paper.specs.Page.{slot_at, slot_of, prefix_of, suffix_of, value_at, body_bytes, Row, row_of, Frame, frame_of, numbers_of, header_of, view_of}
 use Rattle.paper.specs.Listing.{entry_of, listing}
@@ -12,14 +12,12 @@ use Rattle.paper.specs.declared.page.Slot.{Slot}
 use Rattle.paper.specs.Verdicts.{layout_of, fit_of}
 use Rattle.octets.specs.Bytes.{le}
 use Rattle.paper.specs.Printed.{verdict_line, space_line, entry_line, entry_lines, page_text, refused_line, printed}
-use Rattle.paper.proofs.Sorted.{never}
 use Rattle.paper.proofs.Fit.{Fit, fit, length-rows, placed, effective-used}
 use Rattle.listing.proofs.Writing.{adds_first, adds-then, adds-size}
 use Rattle.listing.proofs.Going.{gone-none}
 use Rattle.listing.specs.Line.{Line, Adds}
 use Rattle.listing.specs.Texts.{verdict_text, space_text, line_text, lines_text}
 use Rattle.listing.specs.Pieces.{Listable}
-use mir.Val.{bool_byte}
 use Rattle.std.specs.Result.{result_unwrap_or}
 
 -- ---- the entries' lines
@@ -72,7 +70,7 @@ space_is : (p : List ℕ) → space_line p ≡ space_text (header_of p)
 unfolding space_line space_text header_of
 space_is p = refl
 
-verdict_is : (w : ℕ) (p : List ℕ) → verdict_line w p ≡ verdict_text (pick (layout_of w p) 1 0) (fit_of w p)
+verdict_is : (w : ℕ) (p : List ℕ) → verdict_line w p ≡ verdict_text (layout_of w p) (fit_of w p)
 unfolding verdict_line verdict_text
 verdict_is w p = refl
 
@@ -87,15 +85,10 @@ width-most w e = go (dec_le w 8)
   where
     go : Dec (w ≤ 8) → w ≤ 8
     go (yes h) = h
-    go (no h) = never false (rw (ne_eqb w 0 (λ k. omega arith), ne_eqb w 1 (λ k. omega arith), ne_eqb w 8 (λ k. omega arith)) at e) refl
+    go (no h) = absurd (both_ways false refl (rw (ne_eqb w 0 (λ k. omega arith), ne_eqb w 1 (λ k. omega arith), ne_eqb w 8 (λ k. omega arith)) at e))
 
 pub le-zero : (n : ℕ) → n ≤ 0 → n ≡ 0
 le-zero n h = omega arith
-
--- a truth as a number
-pub as_number : (b : Bool) → bool_byte b ≡ pick b 1 0
-as_number true = refl
-as_number false = refl
 
 -- a page of the right length at a known width is refused no verdict
 module _ (w : ℕ) (p : List ℕ) (h : length p ≡ 16384) (k : is_width w ≡ true) where
@@ -131,7 +124,7 @@ module _ (w : ℕ) (p : List ℕ) (z : fit_of w p ≡ 0) where
   spaced = let R = fits.r1 in (R.order, omega (arith, R.top), effective-used w (view_of w p) fits (length-rows w p))
 
 -- ---- a page's text
-module _ (w : ℕ) (p : List ℕ) (layout f : ℕ) (l : layout ≡ pick (layout_of w p) 1 0) (e : f ≡ fit_of w p) where
+module _ (w : ℕ) (p : List ℕ) (layout : Bool) (f : ℕ) (l : layout ≡ layout_of w p) (e : f ≡ fit_of w p) where
   pub unfit_is : 0 < f → verdict_text layout f ≡ page_text w p
   unfolding page_text
   unfit_is h = rw (ne_eqb (fit_of w p) 0 (λ q. omega arith), append-nil, verdict_is w p, ← l, ← e)

@@ -1,5 +1,6 @@
 -- Text written at a place of a buffer, and the lines of the listing from a header's numbers.
-use Rattle.std.specs.Prelude.{ℕ, zero, suc, ◌+◌, ◌-◌, ◌≡◌, List, [], ◌∷◌, ◌++◌, length}
+use Rattle.std.specs.Prelude.{ℕ, Bool, zero, suc, ◌+◌, ◌-◌, ◌≡◌, List, [], ◌∷◌, ◌++◌, length}
+use Rattle.keys.specs.Choice.{pick}
 use Rattle.octets.specs.Bytes.{le, put}
 use Rattle.paper.specs.Page.{slot_of, prefix_of, suffix_of, value_at}
 use Rattle.paper.specs.Printed.{number_words, entry_line}
@@ -12,8 +13,8 @@ abbrev pub Wrote : List ℕ → ℕ → List ℕ → List ℕ → ℕ → Type 0
 Wrote a at text b r = (b ≡ put a at text) × (r ≡ at + length text)
 
 -- the word verdict and both verdicts' numbers
-unfoldable pub verdict_text : ℕ → ℕ → List ℕ
-verdict_text layout fit = (118 ∷ 101 ∷ 114 ∷ 100 ∷ 105 ∷ 99 ∷ 116 ∷ []) ++ number_words (layout ∷ fit ∷ [])
+unfoldable pub verdict_text : Bool → ℕ → List ℕ
+verdict_text layout fit = (118 ∷ 101 ∷ 114 ∷ 100 ∷ 105 ∷ 99 ∷ 116 ∷ []) ++ number_words (pick layout 1 0 ∷ fit ∷ [])
 
 -- the word space and "start, end, free, effective, reclaimable" of a header
 unfoldable pub space_text : Header → List ℕ

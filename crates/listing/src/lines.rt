@@ -23,12 +23,12 @@ pub(crate) fn refused_line(text: &mut Text, n: u8)
 
 // The line of the two verdicts.
 #[tactic(auto, using(crate::proofs::Decimals::lined), unfolding(crate::specs::Texts::verdict_text))]
-pub(crate) fn verdict_line(text: &mut Text, layout: u8, fit: u8)
+pub(crate) fn verdict_line(text: &mut Text, layout: bool, fit: u8)
     requires { 50 ≤ text.old.room }
     ensures { Adds text.old (verdict_text layout fit) text.new × (text.old.room ≤ text.new.room + 50) }
 {
     text.word(b"verdict");
-    text.numbers(&[layout as u64, fit as u64]);
+    text.numbers(&[u64::from(layout), u64::from(fit)]);
 }
 
 // The line of the space numbers.
@@ -46,6 +46,7 @@ pub(crate) fn space_line(text: &mut Text, h: Header)
 }
 
 // The line of a text's sums, written to `out` from `at` on; answers the place after it.
+// It takes a place and no slice from there on: it is public, and its contract names the place.
 #[tactic(auto, using(crate::proofs::Decimals::lined), unfolding(crate::specs::Texts::sum_text))]
 pub fn sum_line(s: Sink, out: &mut [u8], at: usize) -> usize
     requires { at + 67 ≤ length out.old }

@@ -2,7 +2,6 @@
 // is the writer's: none comes where the text is summed.
 ghost use Rattle.std.specs.Prelude.{◌≡◌, ◌+◌, ◌≤◌, true, length, IfOk, IfErr, OnOk, OnErr};
 ghost use Rattle.std.specs.Io.KnownBytes.{Appends};
-ghost use Rattle.keys.specs.Choice.{pick};
 ghost use Rattle.paper.specs.Calls.{is_width};
 ghost use Rattle.paper.specs.Verdicts.{fit_of, layout_of};
 ghost use Rattle.paper.specs.Printed.{page_text, refused_line, printed};
@@ -37,6 +36,7 @@ pub fn print<W: Write>(to: &mut W, input: &[u8], mode: u8) -> io::Result<Sink>
         Mode::Printed => print_input(&mut Printer { to }, input)?,
         Mode::Summed => print_input(&mut sums, input)?,
     }
+    // No `From`: a sink has a mode, which sums do not know.
     Ok(Sink {
         mode,
         h1: u64::from(sums.h1),
@@ -57,7 +57,7 @@ fn print_input<T: Receiver>(to: &mut T, input: &[u8]) -> io::Result<()>
         Ok(page) => {
             let layout = layout::layout_verdict(page.bytes, page.width).unwrap_or(false);
             let fit = fit::fit_verdict(page.bytes, page.width).unwrap_or(0);
-            page.print_page(to, layout as u8, fit, &mut text)
+            page.print_page(to, layout, fit, &mut text)
         }
         Err(refused) => {
             lines::refused_line(&mut text, refused.number());
@@ -76,6 +76,7 @@ struct Page<'a> {
 }
 
 // Why an input is refused: it is no width byte and page, or its width is bad.
+// Not `Refusal`: the numbers of its cases are told by `dorgumanna`, on which the listing does not rest.
 #[derive(Clone, Copy)]
 enum Refused {
     Length = 1,
@@ -113,16 +114,16 @@ fn page_of(input: &[u8]) -> Result<Page<'_>, Refused>
 // A receiver and the text for it are handed over side by side: of a struct of both each method would have to say that its two
 // references are still the same.
 impl Page<'_> {
-    // Tells the page by the numbers of its verdicts. Nothing follows the first line if the page is not fit.
+    // Tells the page by its verdicts. Nothing follows the first line if the page is not fit.
     #[tactic(auto, using(crate::proofs::Joined::paged))]
     fn print_page<T: Receiver>(
         &self,
         to: &mut T,
-        layout: u8,
+        layout: bool,
         fit: u8,
         text: &mut Text,
     ) -> io::Result<()>
-        requires { (layout ≡ pick (layout_of self.now.width self.now.bytes.now) 1 0) × (fit ≡ fit_of self.now.width self.now.bytes.now) × Fresh text.old 131072 }
+        requires { (layout ≡ layout_of self.now.width self.now.bytes.now) × (fit ≡ fit_of self.now.width self.now.bytes.now) × Fresh text.old 131072 }
         ensures ok { OnOk result (T.takes to.old (page_text self.now.width self.now.bytes.now) to.new) }
         ensures left { OnErr result (T.stops to.old (page_text self.now.width self.now.bytes.now) to.new) }
     {

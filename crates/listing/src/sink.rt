@@ -6,6 +6,7 @@ ghost use Rattle.listing.specs.Sums.{mode_of};
 // were modulo 2^32.
 #[derive(Drop)]
 pub struct Sink {
+    // a number, since the contract of `print` speaks of any mode byte
     pub mode: u8,
     pub h1: u64,
     pub h2: u64,

@@ -5,6 +5,7 @@ ghost use Rattle.paper.specs.Printed.{decimal, number_words, hex_digit, hex_byte
 
 use std::marker::Model;
 
+// The buffer has a length beside it since there is no heap: the memory is fixed.
 // A contract sees the bytes that stand, and how many more there is room for. Digits are put here and not by `write!`: its contract
 // leaves open whether it fails where there is room, and no line may fail.
 #[derive(Drop)]
@@ -109,6 +110,7 @@ impl<'a> Text<'a> {
 }
 
 // Bytes in hex, which fill `out`.
+// By index and not by chunks of two: the proof speaks of the bytes before a place.
 fn write_hex(bytes: &[u8], out: &mut [u8])
     requires { length out.old ≡ 2 * length bytes.now }
     ensures { out.new ≡ hex_bytes bytes.now }

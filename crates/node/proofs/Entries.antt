@@ -1,6 +1,7 @@
 -- An entry's tests are those of the page and those of its slot, one after the other; and what an entry that may be read says of the page.
 -- Assumes nothing.
 use Rattle.std.proofs.Common.{◌≡◌, refl, sym, ◌∙◌, true, false, List, [], ◌++◌, ℕ, ◌+◌, ◌≤◌, min, arith, eqb-true, ne_eqb, ltb, eqb, length, Ok, Err}
+use Rattle.std.proofs.lemmas.Bool.{both_ways}
 use native.Mathlib.Decide.{dec_le}
 use Rattle.octets.specs.Bytes.{le}
 use Rattle.paper.specs.Lists.{all}
@@ -11,7 +12,6 @@ use Rattle.paper.specs.Calls.{is_width, entry_tests, read_entry}
 use Rattle.paper.specs.declared.page.Slot.{Slot}
 use Rattle.paper.specs.declared.refusal.Refusal.{Refusal}
 use Rattle.paper.proofs.Lists.{both_parts}
-use Rattle.paper.proofs.Sorted.{never}
 use Rattle.paper.proofs.Fit.{Lie, within_fact, Rules, rules}
 use Rattle.paper.proofs.Holding.{Hold, judge_hold, answer_holds, refused-judge, judge-append}
 use Rattle.node.specs.Admit.{admit_checks, admit_of, slot_checks, slot_read_of, opened_of}
@@ -24,7 +24,7 @@ width_whole w e = go (dec_le w 8)
   where
     go : Dec (w ≤ 8) → min w 8 ≡ w
     go (yes h) = omega arith
-    go (no h) = never false (rw (ne_eqb w 0 (λ k. omega arith), ne_eqb w 1 (λ k. omega arith), ne_eqb w 8 (λ k. omega arith)) at e) refl
+    go (no h) = absurd (both_ways false refl (rw (ne_eqb w 0 (λ k. omega arith), ne_eqb w 1 (λ k. omega arith), ne_eqb w 8 (λ k. omega arith)) at e))
 
 module _ (w : ℕ) (p : List ℕ) (i : ℕ) where
   abbrev slotTests : List Check

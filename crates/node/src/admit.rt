@@ -6,7 +6,7 @@ ghost use Rattle.node.specs.Admit.{admit_of};
 use crate::header;
 use paper::refusal::Refusal;
 
-// Whether a width is 0, 1 or 8.
+// Whether a width is 0, 1 or 8: a number, as document 01 and the C functions hand it in.
 #[tactic(auto, unfolding(paper::specs::Calls::is_width))]
 pub fn known_width(width: u8) -> bool
     ensures { result ≡ is_width width }

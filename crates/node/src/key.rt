@@ -42,7 +42,8 @@ pub fn head_bytes(head: u32) -> [u8; 4]
     head.to_be_bytes()
 }
 
-// The suffix of a slot: the first of `four`, the bytes of its head, where it is short, else where it stands on the page.
+// The suffix of a slot: the first of `four`, the bytes of its head, where it is short, else where it stands on the page. The caller
+// keeps the four bytes, since the suffix may be a part of them; so slot and bytes are handed in together.
 #[tactic(auto, unfolding(paper::specs::Page::suffix_of, octets::specs::Bytes::part))]
 pub fn suffix<'a>(p: &'a [u8], s: Slot, four: &'a [u8; 4]) -> &'a [u8]
     requires { (4 < s.len → 96 + s.offset + s.len ≤ length p.now) × (four.now ≡ big_bytes 4 s.head) }
@@ -56,7 +57,7 @@ pub fn suffix<'a>(p: &'a [u8], s: Slot, four: &'a [u8; 4]) -> &'a [u8]
     &p[start..start + n]
 }
 
-// Writes the suffix of a slot from `at` on, and no other byte.
+// Writes the suffix of a slot from `at` on, and no other byte. As every writer here it takes the place, so that it promises one `put`.
 #[tactic(auto, using(crate::proofs::Spelling::suffix_length))]
 pub(crate) fn put_suffix(p: &[u8], s: Slot, out: &mut [u8], at: usize)
     requires { (at + s.len ≤ length out.old) × (96 + s.offset + body_bytes 4 s.len ≤ length p.now) }

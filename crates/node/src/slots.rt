@@ -1,4 +1,4 @@
-// Slots that are visited.
+// Slots that are visited. Page, count and end stay parameters: each caller reads the two numbers in its own way, and shows no more.
 ghost use Rattle.std.specs.Prelude.{◌≡◌, ◌*◌, ◌≤◌, length};
 ghost use Rattle.paper.specs.Page.{body_bytes};
 ghost use Rattle.paper.specs.Verdicts.{slot_payload, within};

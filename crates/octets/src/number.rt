@@ -7,7 +7,7 @@ ghost use Rattle.octets.specs.Bytes.{le, be, part, bytes, put};
 
 use crate::runs;
 
-// The byte at `at`, as a wide number.
+// The byte at `at`, as a wide number, with its bound: `read_u8` promises the number alone.
 pub fn byte(p: &[u8], at: usize) -> u64
     requires { at + 1 ≤ length p.now }
     ensures { (result ≡ get_or p.now at 0) × (result < 256) }

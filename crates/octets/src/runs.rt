@@ -1,4 +1,5 @@
 // Runs of bytes: copied into a page, and moved within it by the eight bytes of a slot.
+// Up and down stay two functions: each promises one `put`, and a caller moves in one direction only.
 #![tactic(auto, using(crate::proofs::Methods::runs))]
 
 ghost use Rattle.std.specs.Prelude.{◌≡◌, ◌+◌, ◌-◌, ◌≤◌, length};

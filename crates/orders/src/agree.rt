@@ -1,30 +1,16 @@
 // Whether two pages agree, and whether the searches of a page agree with a scan of it.
 use crate::records;
 use crate::records::Case;
-use keys::order;
 use node::{entry, header, key};
 use paper::answers::Found;
 use search::find;
 
-// Whether two runs of bytes are the same.
-fn same(a: &[u8], b: &[u8]) -> bool {
-    order::compare(a, b).is_eq()
-}
-
-// Whether the first bytes of two runs are there and the same.
-fn same_front(a: &[u8], b: &[u8], n: usize) -> bool {
-    if a.len() < n {
-        return false;
-    }
-    if b.len() < n {
-        return false;
-    }
-    same(&a[..n], &b[..n])
-}
-
-// Whether the 96 bytes of two headers are the same.
+// Whether the 96 bytes of two headers are there and the same.
 pub(crate) fn headers_agree(a: &[u8], b: &[u8]) -> bool {
-    same_front(a, b, 96)
+    match (a.get(..96), b.get(..96)) {
+        (Some(a), Some(b)) => a == b,
+        _ => false,
+    }
 }
 
 // The number of entries of a page.
@@ -54,7 +40,7 @@ fn same_key(a: &[u8], b: &[u8], width: u8, i: usize) -> bool {
     let Ok(m) = key::copy_key(b, width, i, &mut right) else {
         return false;
     };
-    n == m && same(&left, &right)
+    n == m && left == right
 }
 
 // Whether entry `i` of both pages has the same value.
@@ -85,8 +71,9 @@ fn finds_filed(page: &[u8], case: Case, i: u8) -> bool {
     let Ok(Found::Equal(slot)) = find::find(page, case.width, probe) else {
         return false;
     };
+    let mut room = [0u8; 32];
     slot == smaller(page, case.width, probe)
-        && has_key(page, case.width, slot, probe)
+        && read_key(page, case.width, slot, &mut room).is_some_and(|key| key == probe)
         && has_value(page, case.width, slot, case.value(i))
 }
 
@@ -103,24 +90,17 @@ fn finds_absent(page: &[u8], case: Case, i: u8) -> bool {
 // The number of a page's keys that are below the probe, key by key.
 fn smaller(page: &[u8], width: u8, probe: &[u8]) -> usize {
     (0..count(page))
-        .filter(|&i| has_below(page, width, i, probe))
+        .filter(|&i| {
+            let mut room = [0u8; 32];
+            read_key(page, width, i, &mut room).is_some_and(|key| key::below(key, probe))
+        })
         .count()
 }
 
-// Whether entry `i` has a key of at most 32 bytes that is below the probe.
-fn has_below(page: &[u8], width: u8, i: usize, probe: &[u8]) -> bool {
-    let mut copy = [0u8; 32];
-    match key::copy_key(page, width, i, &mut copy) {
-        Ok(n) if n <= 32 => key::below(&copy[..n], probe),
-        _ => false,
-    }
-}
-
-// Whether entry `i` has this key.
-fn has_key(page: &[u8], width: u8, i: usize, probe: &[u8]) -> bool {
-    let mut copy = [0u8; 32];
-    match key::copy_key(page, width, i, &mut copy) {
-        Ok(n) if n <= 32 => same(&copy[..n], probe),
-        _ => false,
+// The key of entry `i` by way of `room`; none where it cannot be read or has more than 32 bytes.
+fn read_key<'a>(page: &[u8], width: u8, i: usize, room: &'a mut [u8; 32]) -> Option<&'a [u8]> {
+    match key::copy_key(page, width, i, room) {
+        Ok(n) if n <= 32 => Some(&room[..n]),
+        _ => None,
     }
 }

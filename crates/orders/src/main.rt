@@ -79,7 +79,7 @@ fn hold_batch(first: &[u8], case: Case) -> bool {
 }
 
 // The case, and how many records were filed.
-fn print_filed<W: Write>(out: &mut W, case: Case, filed: u8) -> io::Result<()> {
+fn print_filed<W: Write>(out: &mut W, case: Case, filed: usize) -> io::Result<()> {
     let width = case.width;
     write!(out, "width {width}")?;
     print_yes(out, b" hints ", case.hints)?;
@@ -90,6 +90,6 @@ fn print_filed<W: Write>(out: &mut W, case: Case, filed: u8) -> io::Result<()> {
 // A text, and 1 for yes or 0 for no.
 fn print_yes<W: Write>(out: &mut W, text: &[u8], yes: bool) -> io::Result<()> {
     out.write_all(text)?;
-    let digit = yes as u8;
+    let digit = u8::from(yes);
     write!(out, "{digit}")
 }

@@ -17,23 +17,19 @@ fn begin_page(page: &mut [u8], case: Case) -> Result<(), Refusal> {
 }
 
 // Begins a page and files the records one by one in an order; answers how many were filed.
-pub(crate) fn file_order(page: &mut [u8], case: Case, order: Order) -> u8 {
+pub(crate) fn file_order(page: &mut [u8], case: Case, order: Order) -> usize {
     if begin_page(page, case).is_err() {
         return 0;
     }
-    let mut filed = 0;
-    for i in 0..240 {
-        filed += file_record(page, case, order.number_at(i));
-    }
-    filed
+    (0..240)
+        .filter(|&i| file_record(page, case, order.number_at(i)))
+        .count()
 }
 
-// Files record `i`; answers 1 if it was filed.
-fn file_record(page: &mut [u8], case: Case, i: u8) -> u8
-    ensures { result ≤ 1 }
-{
+// Files record `i`; answers whether it was filed.
+fn file_record(page: &mut [u8], case: Case, i: u8) -> bool {
     let key = case.key(records::place(i));
-    insert::insert(page, case.width, key.as_slice(), case.value(i)).is_ok() as u8
+    insert::insert(page, case.width, key.as_slice(), case.value(i)).is_ok()
 }
 
 // Begins a page and files the records at once in an order of their own; answers how many were filed.
@@ -53,20 +49,20 @@ fn write_records(buffer: &mut [u8], case: Case) -> usize
 {
     let mut at = 0;
     for i in 0..240 {
-        at = write_record(buffer, at, case, Order::LongStrides.number_at(i));
+        at += write_record(&mut buffer[at..], case, Order::LongStrides.number_at(i));
     }
     at
 }
 
-// Record `i` from a place of the buffer on; answers where it ends.
-fn write_record(buffer: &mut [u8], at: usize, case: Case, i: u8) -> usize
-    requires { at + 26 ≤ length buffer.old }
-    ensures { result ≤ at + 26 }
+// Record `i` at the front of the buffer; answers how many bytes it has.
+fn write_record(buffer: &mut [u8], case: Case, i: u8) -> usize
+    requires { 26 ≤ length buffer.old }
+    ensures { result ≤ 26 }
 {
     let key = case.key(records::place(i));
     let bytes = key.as_slice();
-    number::write_u32(buffer, at, bytes.len() as u32);
-    runs::copy_in(buffer, at + 4, bytes);
-    number::write_u64(buffer, at + 4 + bytes.len(), case.value(i));
-    at + 12 + bytes.len()
+    number::write_u32(buffer, 0, bytes.len() as u32);
+    runs::copy_in(buffer, 4, bytes);
+    number::write_u64(buffer, 4 + bytes.len(), case.value(i));
+    12 + bytes.len()
 }

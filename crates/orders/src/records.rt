@@ -2,6 +2,7 @@
 ghost use Rattle.std.specs.Prelude.{◌≤◌, ◌<◌, length};
 
 // A case: the width of values, whether hints are on, and whether keys are long.
+// The width is a number, as document 01 and the C interface have it.
 #[derive(Clone, Copy)]
 pub(crate) struct Case {
     pub(crate) width: u8,
@@ -10,6 +11,7 @@ pub(crate) struct Case {
 }
 
 // A key: the first bytes of a run, which ends in zeros.
+// The bytes have a length beside them since there is no heap: the memory is fixed.
 #[derive(Clone, Copy)]
 pub(crate) struct Key {
     bytes: [u8; 14],

@@ -1,6 +1,7 @@
 -- A key changed on the page is the key changed on its view. The new payload lies below the end where it outgrows the old one, else within
 -- the old one: either way it meets no other piece, and lies above every slot. Numbers and hints follow as for an insert. Assumes nothing.
 use Rattle.std.proofs.Common.{◌≡◌, refl, sym, ap, ◌∙◌, Bool, true, false, ◌⊎◌, inl, inr, ⊎_elim, List, ℕ, ◌+◌, ◌*◌, ◌-◌, ◌≤◌, ◌<◌, arith, leb-true, ltb-true, ltb-false, le-leb, le-ltb, leb, ltb, length, get_or}
+use Rattle.std.proofs.lemmas.Bool.{both_ways}
 use native.Mathlib.Decide.{dec_le, dec_lt}
 use borrow.Author.Tests.{lt-leb}
 use Rattle.octets.specs.Bytes.{IsBytes, le, put}
@@ -16,7 +17,6 @@ use Rattle.paper.specs.Calls.{room_for_key}
 use Rattle.paper.specs.Views.{no_row, refreshed, row_for, change_view}
 use Rattle.paper.specs.declared.page.Slot.{Slot}
 use Rattle.paper.proofs.Lists.{getD-tab}
-use Rattle.paper.proofs.Sorted.{never}
 use Rattle.paper.proofs.Swaps.{tab-swap}
 use Rattle.paper.proofs.Same.{Same, same-hints, body_bytes_short, body_bytes_long}
 use Rattle.paper.proofs.Fields.{length-put_all, put_all-bytes}
@@ -34,7 +34,7 @@ module _ (o : Slot) (s : List ℕ) where
   outgrown e = go (dec_le (length s) 4) e
     where
       go : Dec (length s ≤ 4) → pick (leb (length s) 4) false (ltb o.len (length s)) ≡ true → (4 < length s) × (o.len < length s)
-      go (yes d) e = never false (rw (le-leb (length s) 4 d) at e) refl
+      go (yes d) e = absurd (both_ways false refl (rw (le-leb (length s) 4 d) at e))
       go (no d) e = (omega arith, ltb-true o.len (length s) (rw (lt-leb (length s) 4 (omega arith)) at e))
 
   -- else it takes no more of the body than the old one did

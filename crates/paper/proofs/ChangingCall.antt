@@ -1,13 +1,12 @@
 -- The call that changes a key, where all its tests hold: it is done, the page after it is fit and lists the new key with the old value in
 -- its place and all else as it was. On a fit page the tests hold for the key that is there. Assumes nothing.
-use Rattle.std.proofs.Common.{◌≡◌, ◌∙◌, Bool, true, false, List, [], ◌++◌, ℕ, ◌-◌, ◌≤◌, ◌<◌, arith, eqb-true, leb-true, ltb-true, eq-eqb, le-leb, lt-ltb, leb, ltb, eqb, length, get_or, length-append, Ok, Err}
+use Rattle.std.proofs.Common.{◌≡◌, ◌∙◌, true, false, List, [], ◌++◌, ℕ, ◌≤◌, ◌<◌, arith, eqb-true, leb-true, ltb-true, eq-eqb, le-leb, lt-ltb, leb, ltb, eqb, length, get_or, length-append, Ok, Err}
 use lib.ListN.{get_or-map}
 use lib.Seq.{drop-append_seam}
-use Rattle.octets.specs.Bytes.{IsBytes, le, part}
-use Rattle.octets.proofs.Put.{drop-bytes, append-bytes, part_bytes}
-use Rattle.keys.specs.Choice.{pick}
+use Rattle.octets.specs.Bytes.{IsBytes}
+use Rattle.octets.proofs.Put.{drop-bytes, append-bytes}
 use Rattle.paper.specs.Lists.{swap, all}
-use Rattle.paper.specs.Page.{slot_of, prefix_of, suffix_of, frame_of, numbers_of, hints_of, view_of}
+use Rattle.paper.specs.Page.{slot_of, suffix_of, frame_of, numbers_of, hints_of, view_of}
 use Rattle.paper.specs.Hints.{in_use}
 use Rattle.paper.specs.Verdicts.{inside, fit_of, u6}
 use Rattle.paper.specs.Listing.{Entry, listing, keys}
@@ -15,15 +14,16 @@ use Rattle.paper.specs.Edits.{rekeyed, key_changed}
 use Rattle.paper.specs.Searches.{probe_suffix}
 use Rattle.paper.specs.Calls.{is_width, has_prefix, between, room_for_key, change_checks, change_of, change_page, fit_verdict}
 use Rattle.paper.proofs.Lists.{both_parts, all-at}
-use Rattle.paper.proofs.Swaps.{getD-swap, getD-swap-other, swap_self, between_of, rising-amid}
+use Rattle.paper.proofs.Swaps.{getD-swap-other, swap_self, between_of, rising-amid}
 use Rattle.paper.proofs.Same.{le-body_bytes}
 use Rattle.paper.proofs.Judging.{fit_passed}
 use Rattle.paper.proofs.Fit.{Fit, fit, fit_back, placed}
-use Rattle.paper.proofs.Filing.{keys-listing, length-listing, frame-rules, prefix-length, has-prefix, whole-key}
+use Rattle.paper.proofs.Filing.{keys-listing, frame-rules, prefix-length, has-prefix, whole-key}
 use Rattle.paper.proofs.Searching.{length_at, bytes-at, key-at, length-keys, rises}
 use Rattle.paper.proofs.Holding.{Hold, judge_hold, done_holds}
 use Rattle.paper.proofs.Changing.{not-outgrown, length-changed, changed-bytes}
 use Rattle.paper.proofs.ChangingFit.{change-frame, change_numbers, change-hints, change-listing, change-fits}
+use Rattle.paper.proofs.CopyingCall.{prefix-bytes}
 
 -- what the tests say
 pub record Changes (w : ℕ) (p : List ℕ) (i : ℕ) (k : List ℕ) : Type 0 where
@@ -130,23 +130,11 @@ module _ (w : ℕ) (p : List ℕ) (i : ℕ) (k : List ℕ) (b : IsBytes p) (hk :
   pub change-shows : (d : Entry) → listing w q ≡ swap i (record { key = k; value = (get_or (listing w p) i d).value }) (listing w p)
   change-shows d = rw change-page (change-listing w p i s C.size b C.fit C.there hs C.room d ∙ rw whole)
 
-  pub change-here : (d : Entry) → get_or (listing w q) i d ≡ record { key = k; value = (get_or (listing w p) i d).value }
-  change-here d =
-      rw (change-shows d) (getD-swap i (record { key = k; value = (get_or (listing w p) i d).value }) d (listing w p) (rw (length-listing w p) C.there))
-
   -- and all else as it was
   pub change-elsewhere : (j : ℕ) (d : Entry) → (j ≡ i → ⊥) → get_or (listing w q) j d ≡ get_or (listing w p) j d
   change-elsewhere j d n = rw (change-shows d) (getD-swap-other i (record { key = k; value = (get_or (listing w p) i d).value }) d (listing w p) j n)
 
 -- ---- "the same key again is accepted"
-prefix-bytes : (p : List ℕ) → IsBytes p → IsBytes (frame_of p).prefix
-unfolding frame_of prefix_of
-prefix-bytes p b = go (leb (le 2 p 46) 16)
-  where
-    go : (t : Bool) → IsBytes (pick t (part (le 2 p 46) p 48) (part (le 2 p 46) p (16352 - le 2 p 46)))
-    go true = part_bytes (le 2 p 46) p 48 b
-    go false = part_bytes (le 2 p 46) p (16352 - le 2 p 46) b
-
 module _ (w : ℕ) (p : List ℕ) (i : ℕ) (size : length p ≡ 16384) (b : IsBytes p) (width : is_width w ≡ true) (F : Fit w (view_of w p)) (h : i < (numbers_of p).count) where
   abbrev own : List ℕ
   own = (frame_of p).prefix ++ suffix_of p (slot_of p i)

@@ -9,7 +9,7 @@ use Rattle.paper.specs.Page.{frame_of, numbers_of, view_of}
 use Rattle.paper.specs.Verdicts.{header_rules, fit_of}
 use Rattle.paper.specs.Listing.{Entry, listing, keys}
 use Rattle.paper.specs.Refusals.{check, judge}
-use Rattle.paper.specs.Searches.{slot_order, sign_of, bound, scan, find_scan, child_scan}
+use Rattle.paper.specs.Searches.{slot_order, sign_of, scan, find_scan, child_scan}
 use Rattle.paper.specs.Calls.{is_width, has_prefix, key_length, prefix_held, inside_fences, find_of, bound_of, compared, compare_of, child_of}
 use Rattle.paper.specs.Demand.{page_after, Given, Searched, Demand3}
 use Rattle.paper.specs.declared.refusal.Refusal.TheVariants.{KeyLength, SlotNumber}

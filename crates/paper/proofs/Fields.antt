@@ -1,6 +1,7 @@
 -- A list of fields written one after the other: what no field meets stays, and each field that no later one meets reads back. Both are
 -- tests that compute, so a use says `refl`. Assumes nothing.
 use Rattle.std.proofs.Common.{◌≡◌, refl, ◌∙◌, Bool, true, false, List, [], ◌∷◌, ℕ, zero, suc, ◌+◌, ◌^◌, ◌≤◌, ◌<◌, arith, le-leb, leb, length, get_or}
+use Rattle.std.proofs.lemmas.Bool.{both_ways}
 use native.Mathlib.Decide.{dec_le}
 use borrow.Author.Tests.{lt-leb}
 use Rattle.octets.specs.Bytes.{IsBytes, le, bytes, put}
@@ -9,7 +10,6 @@ use Rattle.octets.proofs.Little.{length-bytes, le-put_same, bytes-bytes}
 use Rattle.keys.specs.Choice.{pick}
 use Rattle.paper.specs.Edits.{Field, field, put_all}
 use Rattle.paper.proofs.Same.{Same, same-le}
-use Rattle.paper.proofs.Sorted.{never}
 
 -- n bytes from o on meet no field
 abbrev pub clear : ℕ → ℕ → List Field → Bool
@@ -55,13 +55,13 @@ same_clear p (f ∷ fs) o n e j l m =
         next (rw (lt-leb (o + n) f.place (omega arith), le-leb (f.place + f.width) o b) at e)
         ∙ put-above p f.place run j (rw length-bytes (omega arith))
     go next (no a) (no b) =
-        never false (rw (lt-leb (o + n) f.place (omega arith), lt-leb (f.place + f.width) o (omega arith)) at e) refl
+        absurd (both_ways false refl (rw (lt-leb (o + n) f.place (omega arith), lt-leb (f.place + f.width) o (omega arith)) at e))
 
 -- a field reads back
 pub le-field : (fs : List Field) (i : ℕ) (p : List ℕ) (size : ℕ) → size ≤ length p → settled size fs i ≡ true
     → (nth fs i).value < 256 ^ (nth fs i).width → le (nth fs i).width (put_all p fs) (nth fs i).place ≡ (nth fs i).value
 unfolding put_all
-le-field [] i p size h k v = never false k refl
+le-field [] i p size h k v = absurd (both_ways false refl k)
 le-field (f ∷ fs) zero p size h k v = go (dec_le (f.place + f.width) size)
   where
     q : List ℕ
@@ -71,6 +71,6 @@ le-field (f ∷ fs) zero p size h k v = go (dec_le (f.place + f.width) size)
     go (yes a) =
         same-le (put_all q fs) q f.place (f.place + f.width) (same_clear q fs f.place f.width (rw (le-leb (f.place + f.width) size a) at k)) f.width f.place (omega arith) (omega arith)
         ∙ le-put_same f.width p f.place f.value (omega arith) v
-    go (no a) = never false (rw (lt-leb (f.place + f.width) size (omega arith)) at k) refl
+    go (no a) = absurd (both_ways false refl (rw (lt-leb (f.place + f.width) size (omega arith)) at k))
 le-field (f ∷ fs) (suc i) p size h k v =
     le-field fs i (put p f.place (bytes f.width f.value)) size (rw length-put h) k v

@@ -1,6 +1,7 @@
 -- Halving finds the place where the answers part, from any range that holds it; a scan of rising keys parts them; and the first hint that
 -- passes is where it says. Assumes nothing.
 use Rattle.std.proofs.Common.{◌≡◌, refl, sym, ap, ◌∙◌, Bool, true, false, List, [], ◌∷◌, ℕ, zero, suc, ◌+◌, ◌-◌, ◌≤◌, ◌<◌, arith, lt-ltb, le-ltb, length, get_or}
+use Rattle.std.proofs.lemmas.Bool.{both_ways}
 use native.Mathlib.Decide.{dec_lt}
 use Rattle.keys.specs.Choice.{pick}
 use Rattle.keys.specs.Keys.{order}
@@ -9,7 +10,7 @@ use Rattle.paper.specs.Lists.{up_to, less, below_first, rising}
 use Rattle.paper.specs.Hints.{first_hint}
 use Rattle.paper.specs.Searches.{middle, halving, passed}
 use Rattle.paper.proofs.Lists.{both_parts}
-use Rattle.paper.proofs.Sorted.{never, less-order, order-less, less_trans}
+use Rattle.paper.proofs.Sorted.{less-order, order-less, less_trans}
 use Rattle.std.specs.declared.cmp.Ordering.{Ordering}
 use Rattle.std.specs.declared.cmp.Ordering.TheVariants.{Less, Equal, Greater}
 
@@ -131,7 +132,7 @@ passed_falls u k x y l = go (order x k) refl
     above h = passed-above u (order y k) (order_below k y (less-order k y h))
 
     go : (o : Ordering) → order x k ≡ o → passed u o ≡ false → passed u (order y k) ≡ false
-    go Less e h = never true refl (unfold passed in h)
+    go Less e h = absurd (both_ways true (unfold passed in h) refl)
     go Equal e h = above (rw (order_same x k e) at l)
     go Greater e h = above (less_trans k x y (order-less k x (order-above x k e)) l)
 

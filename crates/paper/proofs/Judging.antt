@@ -1,5 +1,5 @@
 -- What a fit verdict of 0 says, and what gives it. Assumes nothing.
-use Rattle.std.proofs.Common.{◌≡◌, refl, Bool, true, false, List, ℕ, arith, eqb-true, eq-eqb, eqb, length, Ok, Err}
+use Rattle.std.proofs.Common.{◌≡◌, refl, Bool, true, false, List, ℕ, eqb-true, eq-eqb, eqb, length, Ok, Err}
 use Rattle.keys.specs.Choice.{pick}
 use Rattle.paper.specs.Verdicts.{fit_of}
 use Rattle.paper.specs.Refusals.{judge}
@@ -22,8 +22,8 @@ passed-fit w p e = go (eqb (length p) 16384) refl (is_width w) refl e
     go : (a : Bool) → eqb (length p) 16384 ≡ a → (b : Bool) → is_width w ≡ b
         → pick a (pick b (Ok (fit_of w p)) (Err Width)) (Err PageLength) ≡ Ok 0 → Passed w p
     go true x true y e = record { size = eqb-true (length p) 16384 x; width = y; fit = cc }
-    go true x false y e = absurd (let z : ◌≡◌ {A = ℕ} 0 1 = cc in omega arith)
-    go false x b y e = absurd (let z : ◌≡◌ {A = ℕ} 0 1 = cc in omega arith)
+    go true x false y e = cc
+    go false x b y e = cc
 
 pub fit_passed : (w : ℕ) (p : List ℕ) → Passed w p → fit_verdict w p ≡ Ok 0
 unfolding fit_verdict judge

@@ -1,7 +1,8 @@
 -- What a listing shows at a place, and where a key that is there stands: the scan for it passes exactly the smaller keys, and among rising
 -- keys a larger one would differ from all the rest. Assumes nothing.
-use Rattle.std.proofs.Common.{◌≡◌, refl, ap, ◌∙◌, true, false, List, [], ◌∷◌, ◌++◌, map, ℕ, suc, ◌<◌, arith, length, get_or}
-use lib.ListN.{length-map, get_or-map}
+use Rattle.std.proofs.Common.{◌≡◌, refl, ap, ◌∙◌, true, false, List, [], ◌∷◌, ◌++◌, ℕ, suc, ◌<◌, arith, length, get_or}
+use Rattle.std.proofs.lemmas.Bool.{both_ways}
+use Rattle.std.proofs.lemmas.List.{get_or-map}
 use Rattle.octets.specs.Bytes.{le}
 use Rattle.keys.specs.Choice.{pick, both}
 use Rattle.keys.specs.Keys.{order}
@@ -11,8 +12,7 @@ use Rattle.paper.specs.Page.{slot_of, suffix_of, value_at, Row, row_of, frame_of
 use Rattle.paper.specs.Listing.{Entry, entry_of, listing}
 use Rattle.paper.specs.Searches.{passed}
 use Rattle.paper.proofs.Lists.{both_parts, both_yes, length-tab, getD-tab}
-use Rattle.paper.proofs.Sorted.{never, spot, order-less, less_trans, differ_sym}
-use Rattle.paper.proofs.Searching.{get_d_any}
+use Rattle.paper.proofs.Sorted.{spot, order-less, less_trans, differ_sym}
 use Rattle.std.specs.declared.cmp.Ordering.{Ordering}
 use Rattle.std.specs.declared.cmp.Ordering.TheVariants.{Less, Equal, Greater}
 
@@ -23,9 +23,7 @@ unfolding listing view_of row_of
 listed w p i d h =
     let n = (numbers_of p).count in
     let f : ℕ → Row = λ j. row_of w p (slot_of p j) in
-    get_d_any (map (entry_of (frame_of p)) (tab n f)) i d (entry_of (frame_of p) (f i)) (rw (length-map (tab n f) (entry_of (frame_of p)), length-tab n f) h)
-    ∙ get_or-map (entry_of (frame_of p)) (tab n f) i (f i)
-    ∙ ap (entry_of (frame_of p)) (getD-tab n f i (f i) h)
+    get_or-map (entry_of (frame_of p)) (tab n f) i (f i) d (rw (length-tab n f) h) ∙ ap (entry_of (frame_of p)) (getD-tab n f i (f i) h)
 
 -- ---- a key that is there
 less-differ : (a b : List ℕ) → less a b ≡ true → differ a b ≡ true
@@ -44,7 +42,7 @@ all_above k y (z ∷ l) e a r =
 -- among rising keys it stands where the scan for it stops
 pub present_at : (k : List ℕ) (ks : List (List ℕ)) → rising ks ≡ true → all (differ k) ks ≡ false → (spot k ks < length ks) × (get_or ks (spot k ks) [] ≡ k)
 unfolding rising all up_to passed
-present_at k [] r e = never true refl e
+present_at k [] r e = absurd (both_ways true e refl)
 present_at k (y ∷ l) r e = go (order y k) refl (present_at k l (both_parts (below_first y l) (rising l) r).1)
   where
     go : (o : Ordering) → order y k ≡ o → (all (differ k) l ≡ false → (spot k l < length l) × (get_or l (spot k l) [] ≡ k))
@@ -57,4 +55,4 @@ present_at k (y ∷ l) r e = go (order y k) refl (present_at k l (both_parts (be
     go Greater q next =
         let m = order-less k y (order-above y k q) in
         let b = both_parts (below_first y l) (rising l) r in
-        never (both (differ k y) (all (differ k) l)) (both_yes (differ k y) (all (differ k) l) (less-differ k y m) (all_above k y l m b.0 b.1)) e
+        absurd (both_ways (both (differ k y) (all (differ k) l)) e (both_yes (differ k y) (all (differ k) l) (less-differ k y m) (all_above k y l m b.0 b.1)))

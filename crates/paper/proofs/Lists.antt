@@ -1,15 +1,17 @@
 -- Laws of tests over lists: what an element put in, or put in another's place, does to each of them. They are equations of tests, so they
 -- ask nothing of the place. Assumes nothing.
-use Rattle.std.proofs.Common.{◌≡◌, refl, ap, Bool, true, false, List, [], ◌∷◌, ◌++◌, map, ℕ, zero, suc, ◌+◌, ◌≤◌, ◌<◌, arith, length, take, drop, get_or}
+use Rattle.std.proofs.Common.{◌≡◌, refl, ap, Bool, true, false, List, [], ◌∷◌, ◌++◌, map, ℕ, zero, suc, ◌+◌, ◌≤◌, ◌<◌, arith, length, take, drop, get_or, set}
+use Rattle.std.proofs.lemmas.Bool.{and_parts, and_from}
+use Rattle.std.proofs.lemmas.List.{map-set}
+use Rattle.std.proofs.lemmas.List.Recursion.{and_at, and_from_places}
 use Rattle.keys.specs.Choice.{both}
 use Rattle.paper.specs.Lists.{tab, ins, swap, all, pairs, sum}
 
 pub both_parts : (a b : Bool) → both a b ≡ true → (a ≡ true) × (b ≡ true)
-both_parts true b e = (refl, e)
-both_parts false b e = absurd (let z : ◌≡◌ {A = ℕ} 0 1 = cc in omega arith)
+both_parts a b e = and_parts a b e
 
 pub both_yes : (a b : Bool) → a ≡ true → b ≡ true → both a b ≡ true
-both_yes a b e f = rw (e, f)
+both_yes a b e f = and_from a b e f
 
 pub both_swap : (a b c : Bool) → both a (both b c) ≡ both b (both a c)
 both_swap true true c = refl
@@ -94,14 +96,11 @@ module _ {A : Type 0} where
 
   pub all-at : (f : A → Bool) (l : List A) → all f l ≡ true → (i : ℕ) (d : A) → i < length l → f (get_or l i d) ≡ true
   unfolding all
-  all-at f [] e i d h = absurd (omega arith)
-  all-at f (x ∷ l) e zero d h = (both_parts (f x) (all f l) e).0
-  all-at f (x ∷ l) e (suc i) d h = all-at f l (both_parts (f x) (all f l) e).1 i d (omega arith)
+  all-at f l e i d h = and_at (all f) f refl (λ x xs. refl) l i d h e
 
   pub all_of : (f : A → Bool) (l : List A) (d : A) → ((i : ℕ) → i < length l → f (get_or l i d) ≡ true) → all f l ≡ true
   unfolding all
-  all_of f [] d h = refl
-  all_of f (x ∷ l) d h = both_yes (f x) (all f l) (h 0 (omega arith)) (all_of f l d (λ i m. h (suc i) (omega arith)))
+  all_of f l d h = and_from_places (all f) f refl (λ x xs. refl) l d h
 
   pub all-weaken : (f g : A → Bool) (l : List A) → ((x : A) → f x ≡ true → g x ≡ true) → all f l ≡ true → all g l ≡ true
   unfolding all
@@ -147,8 +146,12 @@ module _ {A : Type 0} where
 
 -- ---- an element in another's place
 module _ {A : Type 0} where
-  pub map-swap : {B : Type 0} (g : A → B) (i : ℕ) (x : A) (l : List A) → map g (swap i x l) ≡ swap i (g x) (map g l)
+  -- the library's `set`, whose laws are the library's
+  pub swap-set : (i : ℕ) (x : A) (l : List A) → swap i x l ≡ set l i x
   unfolding swap
-  map-swap g i x [] = refl
-  map-swap g zero x (y ∷ l) = refl
-  map-swap g (suc i) x (y ∷ l) = ap (λ r. g y ∷ r) (map-swap g i x l)
+  swap-set i x [] = refl
+  swap-set zero x (y ∷ l) = refl
+  swap-set (suc i) x (y ∷ l) = ap (λ (r : List A). y ∷ r) (swap-set i x l)
+
+pub map-swap : {A B : Type 0} (g : A → B) (i : ℕ) (x : A) (l : List A) → map g (swap i x l) ≡ swap i (g x) (map g l)
+map-swap g i x l = rw (swap-set i x l, swap-set i (g x) (map g l)) (map-set g l i x)

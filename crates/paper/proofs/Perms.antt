@@ -1,5 +1,5 @@
 -- What does not depend on the order of records: tests and sums over them, and the listing that filing them makes. Assumes nothing.
-use Rattle.std.proofs.Common.{◌≡◌, refl, sym, ap, ◌∙◌, Bool, true, false, List, [], ◌∷◌, ◌++◌, ℕ, suc, ◌+◌, arith, length}
+use Rattle.std.proofs.Common.{◌≡◌, refl, sym, ap, ◌∙◌, Bool, true, false, List, [], ◌∷◌, ◌++◌, ℕ, suc, arith, length}
 use mathlib.Core.List.Permᴰ
 use mathlib.Core.List.{Permᴰ}
 use Rattle.keys.specs.Choice.{pick, both}
@@ -60,15 +60,7 @@ file-holds e (y ∷ l) = go (less y.key e.key) (file-holds e l)
     go true d = Permᴰ.trans (Permᴰ.cons refl d) (Permᴰ.swap refl refl)
     go false d = Permᴰ.refl (e ∷ y ∷ l)
 
-front : (es : List Entry) (e : Entry) (l : List Entry) → Permᴰ (es ++ (e ∷ l)) (e ∷ (es ++ l))
-front [] e l = Permᴰ.refl (e ∷ l)
-front (x ∷ es) e l = Permᴰ.trans (Permᴰ.cons refl (front es e l)) (Permᴰ.swap refl refl)
-
-after : (es : List Entry) {l m : List Entry} → Permᴰ l m → Permᴰ (es ++ l) (es ++ m)
-after [] d = d
-after (x ∷ es) d = Permᴰ.cons refl (after es d)
-
 pub file_all-holds : (es l : List Entry) → Permᴰ (file_all es l) (es ++ l)
 unfolding file_all
 file_all-holds [] l = Permᴰ.refl l
-file_all-holds (e ∷ es) l = Permᴰ.trans (file_all-holds es (file e l)) (Permᴰ.trans (after es (file-holds e l)) (front es e l))
+file_all-holds (e ∷ es) l = Permᴰ.trans (file_all-holds es (file e l)) (Permᴰ.trans (Permᴰ.append_left es (file-holds e l)) (Permᴰ.middle e es l))

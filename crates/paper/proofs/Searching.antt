@@ -1,6 +1,8 @@
 -- On a fit page every search is a scan of the listing: a visited slot stands to a probe as its key does, fresh hints hold the answer in
 -- their window, and halving finds it there. Assumes nothing.
-use Rattle.std.proofs.Common.{◌≡◌, refl, sym, ap, ◌∙◌, Bool, true, false, List, [], ◌∷◌, ◌++◌, map, ℕ, zero, suc, ◌+◌, ◌*◌, ◌^◌, ◌≤◌, ◌<◌, add-one, arith, eqb-true, leb-true, leb-false, ltb-true, le-leb, lt-ltb, le-ltb, eq-eqb, ne_eqb, leb, ltb, eqb, length, take, drop, get_or, length-take-le, Result, Ok}
+use Rattle.std.proofs.Common.{◌≡◌, refl, sym, ap, ◌∙◌, Bool, true, false, List, [], ◌++◌, map, ℕ, zero, suc, ◌+◌, ◌*◌, ◌^◌, ◌≤◌, ◌<◌, add-one, arith, eqb-true, leb-true, leb-false, ltb-true, le-leb, lt-ltb, le-ltb, eq-eqb, ne_eqb, leb, ltb, eqb, length, take, drop, get_or, length-take-le, Result, Ok}
+use Rattle.std.proofs.lemmas.Bool.{both_ways}
+use Rattle.std.proofs.lemmas.List.{get_or_default}
 use native.Mathlib.Decide.{dec_le, dec_lt}
 use borrow.Author.Tests.{lt-leb}
 use lib.ListN.{length-map, get_or-map}
@@ -21,7 +23,7 @@ use Rattle.paper.specs.Verdicts.{slot_payload, within, keys_of, faithful, head_a
 use Rattle.paper.specs.Listing.{Entry, listing, keys}
 use Rattle.paper.specs.Searches.{visit, class_of, probe_suffix, by_class, slot_meets, slot_order, passed, turn, search, bound_in, bound_by, bound, tested, find_at, scan, find_scan}
 use Rattle.paper.proofs.Lists.{both_parts, both_yes, length-tab, getD-tab, all-at, all_of}
-use Rattle.paper.proofs.Sorted.{never, up_to_le, order-less, differ_same, differ_no, differ_sym}
+use Rattle.paper.proofs.Sorted.{up_to_le, order-less, differ_same, differ_no, differ_sym}
 use Rattle.paper.proofs.Same.{body_bytes_long}
 use Rattle.paper.proofs.Stages.{hint_slot, head_at-rows}
 use Rattle.paper.proofs.Fit.{Fit, placed}
@@ -36,9 +38,7 @@ use Rattle.paper.specs.declared.answers.Found.{Found}
 use Rattle.paper.specs.declared.answers.Found.TheVariants.{Equal as Found-as-Equal, Smaller}
 
 pub get_d_any : {A : Type 0} (l : List A) (i : ℕ) (d e : A) → i < length l → get_or l i d ≡ get_or l i e
-get_d_any [] i d e h = absurd (omega arith)
-get_d_any (x ∷ l) zero d e h = refl
-get_d_any (x ∷ l) (suc i) d e h = get_d_any l i d e (omega arith)
+get_d_any l i d e h = get_or_default l i d e h
 
 fresh_at : (n : ℕ) (head : ℕ → ℕ) (j : ℕ) → j < 8 → get_or (fresh n head) j 0 ≡ head ((j + 1) * window n)
 unfolding fresh
@@ -201,8 +201,7 @@ module _ (w : ℕ) (p : List ℕ) (size : length p ≡ 16384) (b : IsBytes p) (F
                     → (m + 1) * window n < n → suc m * window n ≤ r
                 parted (yes a) c g d = omega arith
                 parted (no a) c g d =
-                    never (passed u (order (pre ++ S ((m + 1) * window n)) k)) (passed_below u (order (pre ++ S ((m + 1) * window n)) k) c)
-                    (after ((m + 1) * window n) (omega arith) d)
+                    absurd (both_ways (passed u (order (pre ++ S ((m + 1) * window n)) k)) (after ((m + 1) * window n) (omega arith) d) (passed_below u (order (pre ++ S ((m + 1) * window n)) k) c))
 
         up_le : first_hint (ltb (head_of s)) (hints_of p) ≤ 8
         up_le = omega (arith, first_hint-le (ltb (head_of s)) (hints_of p), length-hints)
@@ -221,7 +220,7 @@ module _ (w : ℕ) (p : List ℕ) (size : length p ≡ 16384) (b : IsBytes p) (F
             here h (yes a) =
                 let g : head_of s < get_or (hints_of p) up 0 = ltb-true (head_of s) (get_or (hints_of p) up 0) (first_hint-here (ltb (head_of s)) (hints_of p) (rw length-hints h)) in
                 let c : order s (S at) ≡ Less = head_below s (S at) (drop-bytes (frame_of p).prefix_len k hk) (bytes-at at) (omega (arith, hint-at up h)) in
-                never (passed u (order (pre ++ S at) k)) (before at a) (passed-above u (order (pre ++ S at) k) (suffix-order at ∙ order_below s (S at) c))
+                absurd (both_ways (passed u (order (pre ++ S at) k)) (passed-above u (order (pre ++ S at) k) (suffix-order at ∙ order_below s (S at) c)) (before at a))
 
             go : Dec (first_hint (ltb (head_of s)) (hints_of p) < 8)
                 → (r ≤ pick (eqb (first_hint (ltb (head_of s)) (hints_of p)) 8) n ((first_hint (ltb (head_of s)) (hints_of p) + 1) * window n))
@@ -256,15 +255,13 @@ module _ (w : ℕ) (p : List ℕ) (size : length p ≡ 16384) (b : IsBytes p) (F
               none : (m : ℕ) → r ≡ m → 0 ≡ m
               none zero q = refl
               none (suc m) q =
-                  never (passed u (order (pre ++ S 0) k)) (before 0 (omega arith))
-                  (passed-above u (order (pre ++ S 0) k) (sym (key-class 0) ∙ rw e (unfold by_class in refl)))
+                  absurd (both_ways (passed u (order (pre ++ S 0) k)) (passed-above u (order (pre ++ S 0) k) (sym (key-class 0) ∙ rw e (unfold by_class in refl))) (before 0 (omega arith)))
           go Greater e = unfold bound_by in ap Ok (full (dec_lt r n))
             where
               full : Dec (r < n) → n ≡ r
               full (no h) = omega (arith, r-le)
               full (yes h) =
-                  never (passed u (order (pre ++ S r) k)) (passed_below u (order (pre ++ S r) k) (sym (key-class r) ∙ rw e (unfold by_class in refl)))
-                  (after r (omega arith) h)
+                  absurd (both_ways (passed u (order (pre ++ S r) k)) (after r (omega arith) h) (passed_below u (order (pre ++ S r) k) (sym (key-class r) ∙ rw e (unfold by_class in refl))))
 
   -- ---- find
   differ-passed : (k : List ℕ) (i : ℕ) → passed false (order (pre ++ S i) k) ≡ true → differ k (pre ++ S i) ≡ true
@@ -272,8 +269,8 @@ module _ (w : ℕ) (p : List ℕ) (size : length p ≡ 16384) (b : IsBytes p) (F
     where
       go : (o : Ordering) → order (pre ++ S i) k ≡ o → passed false o ≡ true → differ k (pre ++ S i) ≡ true
       go Less e h = differ_sym k (pre ++ S i) ∙ (unfold differ in rw (order-less (pre ++ S i) k e))
-      go Equal e h = never false (unfold passed in h) refl
-      go Greater e h = never false (unfold passed in h) refl
+      go Equal e h = absurd (both_ways false refl (unfold passed in h))
+      go Greater e h = absurd (both_ways false refl (unfold passed in h))
 
   differ-not : (k : List ℕ) (i : ℕ) → passed true (order (pre ++ S i) k) ≡ false → differ k (pre ++ S i) ≡ true
   differ-not k i h = go (differ k (pre ++ S i)) refl
@@ -282,7 +279,7 @@ module _ (w : ℕ) (p : List ℕ) (size : length p ≡ 16384) (b : IsBytes p) (F
       go true e = refl
       go false e =
           let q : order (pre ++ S i) k ≡ Equal = same_order (pre ++ S i) k (differ_no k (pre ++ S i) e) in
-          never (passed true (order (pre ++ S i) k)) (rw q (unfold passed in refl)) h
+          absurd (both_ways (passed true (order (pre ++ S i) k)) h (rw q (unfold passed in refl)))
 
   all-differ : (k : List ℕ) → ((i : ℕ) → i < n → differ k (pre ++ S i) ≡ true) → all (differ k) (keys (listing w p)) ≡ true
   all-differ k h = all_of (differ k) (keys (listing w p)) [] (λ i m. rw (key-at i (rw length-keys at m) []) (h i (rw length-keys at m)))
@@ -295,14 +292,13 @@ module _ (w : ℕ) (p : List ℕ) (size : length p ≡ 16384) (b : IsBytes p) (F
 
       at : scan false k (listing w p) < n → (o : Ordering) → order (pre ++ S (scan false k (listing w p))) k ≡ o
           → tested (scan false k (listing w p)) (Ok o) ≡ pick (all (differ k) (keys (listing w p))) (Ok (Smaller (scan false k (listing w p)))) (Ok (Found-as-Equal (scan false k (listing w p))))
-      at h Less e = never (passed false (order (pre ++ S r0) k)) (passed_below false (order (pre ++ S r0) k) e) (after false k r0 (omega arith) h)
+      at h Less e = absurd (both_ways (passed false (order (pre ++ S r0) k)) (after false k r0 (omega arith) h) (passed_below false (order (pre ++ S r0) k) e))
       at h Equal e = unfold tested in equal (all (differ k) (keys (listing w p))) refl
         where
           equal : (t : Bool) → all (differ k) (keys (listing w p)) ≡ t → ◌≡◌ {A = Result Found Refusal} (Ok (Found-as-Equal r0)) (pick t (Ok (Smaller r0)) (Ok (Found-as-Equal r0)))
           equal false q = refl
           equal true q =
-              never (differ k (pre ++ S r0)) (rw (key-at r0 h []) at (all-at (differ k) (keys (listing w p)) q r0 [] (rw length-keys h)))
-              (differ_same k (pre ++ S r0) (order_same (pre ++ S r0) k e))
+              absurd (both_ways (differ k (pre ++ S r0)) (differ_same k (pre ++ S r0) (order_same (pre ++ S r0) k e)) (rw (key-at r0 h []) at (all-at (differ k) (keys (listing w p)) q r0 [] (rw length-keys h))))
       at h Greater e = unfold tested in rw (all-differ k here)
         where
           top : ℕ
@@ -310,7 +306,7 @@ module _ (w : ℕ) (p : List ℕ) (size : length p ≡ 16384) (b : IsBytes p) (F
 
           low : Dec (r0 < top) → top ≤ r0
           low (no a) = omega arith
-          low (yes a) = never (passed true (order (pre ++ S r0) k)) (before true k r0 a) (passed-above true (order (pre ++ S r0) k) e)
+          low (yes a) = absurd (both_ways (passed true (order (pre ++ S r0) k)) (passed-above true (order (pre ++ S r0) k) e) (before true k r0 a))
 
           here : (i : ℕ) → i < n → differ k (pre ++ S i) ≡ true
           here i m =

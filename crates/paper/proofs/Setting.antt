@@ -13,20 +13,13 @@ use Rattle.paper.specs.Views.{no_row, set_row, set_view}
 use Rattle.paper.specs.declared.page.Slot.{Slot}
 use Rattle.paper.proofs.Lists.{getD-tab}
 use Rattle.paper.proofs.Swaps.{tab-swap}
-use Rattle.paper.proofs.Same.{Same, same-le, same-part, same-slot, same-hints, body_bytes_long}
+use Rattle.paper.proofs.Same.{Same, same-part, same-slot, same-hints, same-numbers, body_bytes_long, suffix_in}
 use Rattle.paper.proofs.Fit.{Rules, Fit, length-rows, placed}
-use Rattle.paper.proofs.Untouched.{Save, Clear, suffix_in, clear_in, row_piece, others, frame-kept}
+use Rattle.paper.proofs.Untouched.{Save, Clear, clear_in, row_piece, others, frame-kept}
 
 -- ---- a header that is the same
 pub numbers_in_lem : (q p : List ℕ) → Same q p 0 96 → numbers_of q ≡ numbers_of p
-unfolding numbers_of
-numbers_in_lem q p h =
-    let at : (m o : ℕ) → o + m ≤ 96 → le m q o ≡ le m p o = λ m o k. same-le q p 0 96 h m o (omega arith) k in
-    let count = at 2 2 (omega arith) in
-    let start = at 2 4 (omega arith) in
-    let end = at 2 6 (omega arith) in
-    let effective = at 4 40 (omega arith) in
-    λ k. record { count = count k; start = start k; end = end k; effective = effective k }
+numbers_in_lem q p h = same-numbers q p 0 96 h (omega arith) (omega arith)
 
 pub header_in : (q p : List ℕ) → length q ≡ length p → Same q p 0 96 → take 96 q ≡ take 96 p
 unfolding part

@@ -18,7 +18,7 @@ use Rattle.paper.proofs.Fit.{Fit, fit, fit_back}
 use Rattle.paper.proofs.Filing.{length-listing}
 use Rattle.paper.proofs.Searching.{rises, length-keys}
 use Rattle.paper.proofs.Listed.{listed, present_at}
-use Rattle.paper.proofs.Holding.{Hold, judge_hold, answer_holds}
+use Rattle.paper.proofs.Holding.{Hold, judge_hold}
 use Rattle.paper.proofs.Setting.{length-set, set-bytes, set-frame, set-header}
 use Rattle.paper.proofs.SettingFit.{set-fits, set-listing, set-keys-listing}
 
@@ -55,11 +55,6 @@ sets w p k expected new H =
       present = not-true (all (differ k) (keys (listing w p))) g.0;
       stored = eqb-true (stored_value w p k) expected h.0;
     }
-
--- an old value that was answered says that all tests held
-pub set-held : (w : ℕ) (p k : List ℕ) (expected new v : ℕ) → set_of w p k expected new ≡ Ok v → Hold (set_checks w p k expected new)
-unfolding set_of
-set-held w p k expected new v e = answer_holds (set_checks w p k expected new) (stored_value w p k) v e
 
 module _ (w : ℕ) (p k : List ℕ) (expected new : ℕ) (b : IsBytes p) (H : Hold (set_checks w p k expected new)) where
   abbrev i : ℕ

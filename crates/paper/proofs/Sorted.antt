@@ -1,6 +1,7 @@
 -- Laws of sorted keys and of records: `less` and `differ` as tests, a key put in where it belongs keeps a list rising, records filed in
 -- either order come out alike, and a key between two fences begins as they do. Assumes nothing.
-use Rattle.std.proofs.Common.{◌≡◌, refl, sym, ◌∙◌, Bool, true, false, List, [], ◌∷◌, ◌++◌, ℕ, suc, ◌+◌, ◌≤◌, arith, length, take}
+use Rattle.std.proofs.Common.{◌≡◌, refl, sym, ◌∙◌, Bool, true, false, List, [], ◌∷◌, ◌++◌, ℕ, suc, ◌≤◌, arith, length, take}
+use Rattle.std.proofs.lemmas.Bool.{both_ways}
 use lib.Seq.{take-append_seam}
 use Rattle.keys.specs.Choice.{pick, both}
 use Rattle.keys.specs.Keys.{order, common}
@@ -16,10 +17,6 @@ use Rattle.std.specs.declared.cmp.Ordering.{Ordering}
 use Rattle.std.specs.declared.cmp.Ordering.TheVariants.{Less, Equal, Greater}
 use Rattle.std.specs.Ordering.{is_lt, ordering_reverse}
 
--- no test is both
-pub never : {A : Type 0} (b : Bool) → b ≡ true → b ≡ false → A
-never b e f = absurd (let z : ◌≡◌ {A = ℕ} 0 1 = cc in omega arith)
-
 -- ---- less and differ
 pub less-order : (a b : List ℕ) → less a b ≡ true → order a b ≡ Less
 unfolding less
@@ -27,8 +24,8 @@ less-order a b = go (order a b)
   where
     go : (o : Ordering) → is_lt o ≡ true → o ≡ Less
     go Less e = refl
-    go Equal e = never false e refl
-    go Greater e = never false e refl
+    go Equal e = absurd (both_ways false refl e)
+    go Greater e = absurd (both_ways false refl e)
 
 pub order-less : (a b : List ℕ) → order a b ≡ Less → less a b ≡ true
 unfolding less
@@ -36,7 +33,7 @@ order-less a b e = rw e
 
 -- what is not smaller is not below
 pub not-less : (a b : List ℕ) → less a b ≡ false → order a b ≡ Less → ⊥
-not-less a b e f = never (less a b) (order-less a b f) e
+not-less a b e f = both_ways (less a b) e (order-less a b f)
 
 pub less_trans : (a b c : List ℕ) → less a b ≡ true → less b c ≡ true → less a c ≡ true
 less_trans a b c e f = order-less a c (order_trans a b c (less-order a b e) (less-order b c f))
@@ -73,9 +70,9 @@ unfolding differ less
 differ_no a b e = go (order a b) refl (rw (order_flip a b) at e)
   where
     go : (o : Ordering) → order a b ≡ o → pick (is_lt o) true (is_lt (ordering_reverse o)) ≡ false → b ≡ a
-    go Less q e = never true refl e
+    go Less q e = absurd (both_ways true e refl)
     go Equal q e = sym (order_same a b q)
-    go Greater q e = never true refl e
+    go Greater q e = absurd (both_ways true e refl)
 
 -- ---- scans
 pub up_to_le : {A : Type 0} (f : A → Bool) (l : List A) → up_to f l ≤ length l
@@ -144,7 +141,7 @@ file_comm_less x y e (z ∷ l) = go (less z.key x.key) (less z.key y.key) refl r
     go : (a b : Bool) → less z.key x.key ≡ a → less z.key y.key ≡ b → file x (file y l) ≡ file y (file x l)
         → file x (file y (z ∷ l)) ≡ file y (file x (z ∷ l))
     go true true f g h = rw (f, g) (simp (f, g) (rw h))
-    go true false f g h = never (less z.key y.key) (less_trans z.key x.key y.key f e) g
+    go true false f g h = absurd (both_ways (less z.key y.key) g (less_trans z.key x.key y.key f e))
     go false true f g h = simp (f, g, e)
     go false false f g h = simp (f, g, e, less-flip x.key y.key e)
 

@@ -1,10 +1,9 @@
 -- What every edit ends with: its four numbers written, and the hints in use refreshed. Neither touches the body, so the page then reads as
 -- it did, but for those numbers and hints. Assumes nothing.
-use Rattle.std.proofs.Common.{◌≡◌, refl, sym, ap, ◌∙◌, Bool, true, false, ◌⊎◌, inl, inr, ⊎_elim, List, [], ◌∷◌, ◌++◌, ℕ, zero, suc, ◌+◌, ◌*◌, ◌-◌, ◌/◌, ◌^◌, ◌≤◌, ◌<◌, mul-le-mul_right, arith, le-leb, leb-true, leb, eqb, length, get_or, length-append}
+use Rattle.std.proofs.Common.{◌≡◌, refl, sym, ap, ◌∙◌, Bool, true, false, ◌⊎◌, inl, inr, ⊎_elim, List, [], ◌∷◌, ◌++◌, ℕ, zero, suc, ◌+◌, ◌*◌, ◌/◌, ◌^◌, ◌≤◌, ◌<◌, mul-le-mul_right, arith, leb-true, leb, eqb, length, get_or, length-append}
 use native.Mathlib.Decide.{dec_le, dec_lt}
-use borrow.Author.Tests.{lt-leb}
 use lib.ListN.{get_or-eq_default}
-use Rattle.octets.specs.Bytes.{IsBytes, le, part, bytes, put}
+use Rattle.octets.specs.Bytes.{IsBytes, le, bytes, put}
 use Rattle.octets.proofs.Put.{length-put, put_below, put-above, put-append, put-bytes, append-bytes}
 use Rattle.octets.proofs.Alike.{le-put-below}
 use Rattle.octets.proofs.Little.{length-bytes, le-lt, le-put_same, bytes-bytes}
@@ -12,12 +11,12 @@ use Rattle.keys.specs.Choice.{pick}
 use Rattle.paper.specs.Lists.{tab}
 use Rattle.paper.specs.Page.{slot_at, place, slot_of, prefix_of, suffix_of, value_at, Row, row_of, rows_of, frame_of, Numbers, numbers_of, hints_of, view_of}
 use Rattle.paper.specs.Hints.{in_use, window, fresh, flat, refresh}
-use Rattle.paper.specs.Verdicts.{head_at}
+use Rattle.paper.specs.Verdicts.{prefix_piece, head_at}
 use Rattle.paper.specs.Edits.{number_fields, put_all}
 use Rattle.paper.specs.Views.{refreshed}
 use Rattle.paper.specs.declared.page.Slot.{Slot}
 use Rattle.paper.proofs.Lists.{both_parts, tab-ext, tab_lt, length-tab, getD-tab}
-use Rattle.paper.proofs.Same.{Same, same-le, same-part, same-slot, same-hints, same-suffix, same_row, Held}
+use Rattle.paper.proofs.Same.{Same, same-le, same-part, same-slot, same-hints, same-numbers, same-suffix, same_row, suffix_in, prefix_in, body_bytes_long, Held}
 use Rattle.paper.proofs.Fields.{length-put_all, same_clear, le-field}
 
 -- what lies in the body lies from e on: n is the number of entries
@@ -64,14 +63,10 @@ module _ (q p : List ℕ) (l : length q ≡ length p) (a : Same q p 0 2) (b : Sa
 
   -- a prefix that is inline, or lies in bytes of the body that are the same
   prefix_same : (e n : ℕ) → Same q p (96 + e) 16384 → (16 < n → e + n ≤ 16256) → prefix_of q n ≡ prefix_of p n
-  unfolding prefix_of
-  prefix_same e n body f = go (dec_le n 16)
-    where
-      go : Dec (n ≤ 16) → pick (leb n 16) (part n q 48) (part n q (16352 - n)) ≡ pick (leb n 16) (part n p 48) (part n p (16352 - n))
-      go (yes h) = rw (le-leb n 16 h) (same-part q p 44 64 c l n 48 (omega arith) (omega arith))
-      go (no h) =
-          let m = f (omega arith) in
-          rw (lt-leb n 16 (omega arith)) (same-part q p (96 + e) 16384 body l n (16352 - n) (omega arith) (omega arith))
+  unfolding prefix_piece
+  prefix_same e n body f =
+      prefix_in q p l c n (elim (dec_le n 16) [ yes k ↦ omega arith | no k ↦ omega (arith, f (omega arith)) ])
+      (λ k j a b. body j (omega (arith, f k, body_bytes_long 16 n k)) (omega arith))
 
 -- ---- a page whose body is the same from e on
 module _ (w : ℕ) (q p : List ℕ) (e n : ℕ) (l : length q ≡ length p) (P : Placed w p e n) (body : Same q p (96 + e) 16384) where
@@ -105,9 +100,7 @@ module _ (q p : List ℕ) (lq : length q ≡ 16384) (lp : length p ≡ 16384) (b
   slots_same i = same-slot q p 96 (place i + 8) (same_body (place i + 8)) (place i) (omega arith) (omega arith)
 
   suffix-any : (s : Slot) → suffix_of q s ≡ suffix_of p s
-  unfolding suffix_of
-  suffix-any s =
-      rw (same-part q p 96 (96 + s.offset + s.len) (same_body (96 + s.offset + s.len)) l s.len (96 + s.offset) (omega arith) (omega arith))
+  suffix-any s = suffix_in q p l s (λ d j a b. same_body (96 + s.offset + s.len) j (omega arith) b)
 
   row_any : (w : ℕ) (s : Slot) → row_of w q s ≡ row_of w p s
   unfolding row_of
@@ -264,14 +257,7 @@ module _ (w : ℕ) (p : List ℕ) (size : length p ≡ 16384) (bytes : IsBytes p
   narrow a b h j l m = low j (omega arith) (omega arith)
 
   numbers-low : numbers_of (put p 64 run) ≡ numbers_of p
-  unfolding numbers_of
-  numbers-low =
-      let at : (m o : ℕ) → o + m ≤ 64 → le m (put p 64 run) o ≡ le m p o = λ m o h. same-le (put p 64 run) p 0 64 low m o (omega arith) h in
-      let count = at 2 2 (omega arith) in
-      let start = at 2 4 (omega arith) in
-      let end = at 2 6 (omega arith) in
-      let effective = at 4 40 (omega arith) in
-      λ k. record { count = count k; start = start k; end = end k; effective = effective k }
+  numbers-low = same-numbers (put p 64 run) p 0 64 low (omega arith) (omega arith)
 
   put_view : 64 ≤ (numbers_of p).count
       → view_of w (put p 64 run) ≡ record { frame = frame_of p; numbers = numbers_of p; hints = fresh (numbers_of p).count (head_at (rows_of w p (numbers_of p).count)); rows = rows_of w p (numbers_of p).count }

@@ -3,10 +3,12 @@
 use Rattle.std.proofs.Common.{◌≡◌, refl, sym, ap, ◌∙◌, Bool, true, List, [], ◌∷◌, ◌++◌, map, ℕ, zero, suc, ◌+◌, ◌-◌, ◌≤◌, ◌<◌, add-one, arith, ne_eqb, le-leb, leb, eqb, length, get_or}
 use native.Mathlib.Decide.{dec_le}
 use borrow.Author.Tests.{lt-leb}
+use Rattle.std.proofs.lemmas.List.{set-append_left, set-get_or, get_or-set_same, get_or-set_other}
+use Rattle.std.proofs.lemmas.List.Recursion.{and_set}
 use Rattle.keys.specs.Choice.{pick}
 use Rattle.paper.specs.Lists.{tab, ins, swap, all, pairs, sum, less, below_first, rising}
 use Rattle.paper.specs.Calls.{between}
-use Rattle.paper.proofs.Lists.{both_parts, both_yes, pairs-ins, sum-ins, tab-ext, all-at}
+use Rattle.paper.proofs.Lists.{both_parts, both_yes, pairs-ins, sum-ins, tab-ext, all-at, swap-set, map-swap}
 
 module _ {A : Type 0} where
   -- the list without its element i
@@ -55,11 +57,8 @@ module _ {A : Type 0} where
 
   -- ---- a swap
   pub all-swap : (f : A → Bool) (i : ℕ) (x : A) (l : List A) → f x ≡ true → all f l ≡ true → all f (swap i x l) ≡ true
-  unfolding all swap
-  all-swap f i x [] g e = refl
-  all-swap f zero x (y ∷ l) g e = both_yes (f x) (all f l) g (both_parts (f y) (all f l) e).1
-  all-swap f (suc i) x (y ∷ l) g e =
-      let b = both_parts (f y) (all f l) e in both_yes (f y) (all f (swap i x l)) b.0 (all-swap f i x l g b.1)
+  unfolding all
+  all-swap f i x l g e = rw (swap-set i x l) (and_set (all f) f refl (λ y ys. refl) l i x g e)
 
   pub pairs-swap : (f : A → A → Bool) → ((a b : A) → f a b ≡ f b a) → (i : ℕ) (x d : A) (l : List A) → i < length l → all (f x) (out i l) ≡ true
       → pairs f l ≡ true → pairs f (swap i x l) ≡ true
@@ -84,38 +83,21 @@ module _ {A : Type 0} where
   sum-at f i d l h = omega (arith, ap (sum f) (self-ins i l d h), sum-ins f i (get_or l i d) (out i l))
 
   pub swap-append : (i : ℕ) (x : A) (l m : List A) → i < length l → swap i x l ++ m ≡ swap i x (l ++ m)
-  unfolding swap
-  swap-append i x [] m h = absurd (omega arith)
-  swap-append zero x (y ∷ l) m h = refl
-  swap-append (suc i) x (y ∷ l) m h = ap (λ (r : List A). y ∷ r) (swap-append i x l m (omega arith))
+  swap-append i x l m h = rw (swap-set i x l, swap-set i x (l ++ m)) (sym (set-append_left l m i x h))
 
   -- what was there, put there
   pub swap_self : (i : ℕ) (d : A) (l : List A) → swap i (get_or l i d) l ≡ l
-  unfolding swap
-  swap_self i d [] = refl
-  swap_self zero d (y ∷ l) = refl
-  swap_self (suc i) d (y ∷ l) = ap (λ (r : List A). y ∷ r) (swap_self i d l)
+  swap_self i d l = swap-set i (get_or l i d) l ∙ set-get_or l i d
 
   -- nor does a test see an element that it takes for the old one
   pub map-swap-same : {B : Type 0} (g : A → B) (i : ℕ) (x d : A) (l : List A) → g x ≡ g (get_or l i d) → map g (swap i x l) ≡ map g l
-  unfolding swap
-  map-swap-same g i x d [] e = refl
-  map-swap-same g zero x d (y ∷ l) e = ap (λ r. r ∷ map g l) e
-  map-swap-same g (suc i) x d (y ∷ l) e = ap (λ r. g y ∷ r) (map-swap-same g i x d l e)
+  map-swap-same g i x d l e = map-swap g i x l ∙ rw e (sym (map-swap g i (get_or l i d) l) ∙ ap (map g) (swap_self i d l))
 
   pub getD-swap : (i : ℕ) (x d : A) (l : List A) → i < length l → get_or (swap i x l) i d ≡ x
-  unfolding swap
-  getD-swap i x d [] h = absurd (omega arith)
-  getD-swap zero x d (y ∷ l) h = refl
-  getD-swap (suc i) x d (y ∷ l) h = getD-swap i x d l (omega arith)
+  getD-swap i x d l h = rw (swap-set i x l) (get_or-set_same l i x d h)
 
   pub getD-swap-other : (i : ℕ) (x d : A) (l : List A) (j : ℕ) → (j ≡ i → ⊥) → get_or (swap i x l) j d ≡ get_or l j d
-  unfolding swap
-  getD-swap-other i x d [] j k = refl
-  getD-swap-other zero x d (y ∷ l) zero k = absurd (k refl)
-  getD-swap-other zero x d (y ∷ l) (suc j) k = refl
-  getD-swap-other (suc i) x d (y ∷ l) zero k = refl
-  getD-swap-other (suc i) x d (y ∷ l) (suc j) k = getD-swap-other i x d l j (λ q. k (ap suc q))
+  getD-swap-other i x d l j k = rw (swap-set i x l) (get_or-set_other l i j x d k)
 
   -- a table that differs in one place
   pub tab-swap : (n i : ℕ) (f g : ℕ → A) (x : A) → i < n → ((j : ℕ) → j < n → (j ≡ i → ⊥) → g j ≡ f j) → g i ≡ x → tab n g ≡ swap i x (tab n f)

@@ -1,20 +1,17 @@
 -- What an edit of one slot's payload leaves as it was. A piece that lies within that payload is apart from every other piece by U3, and one
 -- below the end is apart from all: so a page that differs from a fit page only there has the same frame and the same other rows. Assumes
 -- nothing.
-use Rattle.std.proofs.Common.{◌≡◌, ◌∙◌, true, ◌⊎◌, inl, inr, ⊎_elim, List, ◌++◌, map, ℕ, ◌+◌, ◌-◌, ◌≤◌, ◌<◌, min, max, arith, leb-true, le-leb, leb, length, get_or, take, length-append, get_or-append-add}
-use native.Mathlib.Decide.{dec_le, dec_lt}
-use borrow.Author.Tests.{lt-leb}
+use Rattle.std.proofs.Common.{◌≡◌, ◌∙◌, true, ◌⊎◌, inl, inr, ⊎_elim, List, ◌++◌, map, ℕ, ◌+◌, ◌≤◌, ◌<◌, min, max, arith, leb-true, length, get_or, length-append, get_or-append-add}
+use native.Mathlib.Decide.{dec_lt}
 use lib.ListN.{length-map, get_or-append, get_or-map}
-use Rattle.octets.specs.Bytes.{part, big_bytes}
-use Rattle.keys.specs.Choice.{pick}
 use Rattle.paper.specs.Lists.{all}
-use Rattle.paper.specs.Page.{slot_of, prefix_of, suffix_of, body_bytes, value_at, row_of, frame_of, numbers_of, View, view_of}
+use Rattle.paper.specs.Page.{slot_of, suffix_of, value_at, row_of, frame_of, numbers_of, View, view_of}
 use Rattle.paper.specs.Verdicts.{Piece, slot_payload, payload, fence_piece, prefix_piece, frame_pieces, apart, u2, u3}
 use Rattle.paper.specs.Views.{no_row}
 use Rattle.paper.specs.declared.page.Slot.{Slot}
 use Rattle.paper.proofs.Lists.{all-weaken, getD-tab}
 use Rattle.paper.proofs.Swaps.{out, all-out, out_at, out-pairs}
-use Rattle.paper.proofs.Same.{Same, same-le, same-part, body_bytes_long}
+use Rattle.paper.proofs.Same.{Same, same-le, body_bytes_long, suffix_in, prefix_in}
 use Rattle.paper.proofs.Stages.{frame-parts}
 use Rattle.paper.proofs.Fit.{Fit, apart_sym, apart-part, new_apart, length-rows, placed}
 
@@ -30,19 +27,6 @@ save_apart q p d x y S e h j l m =
     let f = leb-true (min x.hi y.hi) (max x.lo y.lo) e in
     elim (dec_lt j (96 + x.lo)) [ yes k ↦ S j (omega arith) (inl k) | no k ↦ S j (omega arith) (inr (omega arith)) ]
 
--- a suffix whose bytes are the same, where it has any in the body
-pub suffix_in : (q p : List ℕ) → length q ≡ length p → (s : Slot) → (4 < s.len → Same q p (96 + s.offset) (96 + s.offset + s.len)) → suffix_of q s ≡ suffix_of p s
-unfolding suffix_of
-suffix_in q p l s h = go (dec_le s.len 4)
-  where
-    go : Dec (s.len ≤ 4)
-        → pick (leb s.len 4) (take s.len (big_bytes 4 s.head)) (part s.len q (96 + s.offset))
-        ≡ pick (leb s.len 4) (take s.len (big_bytes 4 s.head)) (part s.len p (96 + s.offset))
-    go (yes d) = rw (le-leb s.len 4 d)
-    go (no d) =
-        rw (lt-leb s.len 4 (omega arith))
-        (same-part q p (96 + s.offset) (96 + s.offset + s.len) (h (omega arith)) l s.len (96 + s.offset) (omega arith) (omega arith))
-
 -- a row whose payload is the same
 pub row_in : (w : ℕ) (q p : List ℕ) → length q ≡ length p → (s : Slot) → Same q p (96 + (slot_payload w s).lo) (96 + (slot_payload w s).hi) → row_of w q s ≡ row_of w p s
 unfolding row_of
@@ -51,19 +35,6 @@ row_in w q p l s h =
       suffix_in q p l s (λ d j a b. h j a (omega (arith, body_bytes_long 4 s.len d))),
       same-le q p (96 + (slot_payload w s).lo) (96 + (slot_payload w s).hi) h w (value_at s) (omega arith) (omega arith),
     )
-
--- a prefix that is inline, or whose piece is the same
-prefix_in : (q p : List ℕ) → length q ≡ length p → Same q p 44 64 → (n : ℕ) → n ≤ 16256
-    → (16 < n → Same q p (96 + (prefix_piece n).lo) (96 + (prefix_piece n).hi)) → prefix_of q n ≡ prefix_of p n
-unfolding prefix_of prefix_piece
-prefix_in q p l c n m h = go (dec_le n 16)
-  where
-    go : Dec (n ≤ 16) → pick (leb n 16) (part n q 48) (part n q (16352 - n)) ≡ pick (leb n 16) (part n p 48) (part n p (16352 - n))
-    go (yes d) = rw (le-leb n 16 d) (same-part q p 44 64 c l n 48 (omega arith) (omega arith))
-    go (no d) =
-        let k : body_bytes 16 n ≡ n = body_bytes_long 16 n (omega arith) in
-        rw (lt-leb n 16 (omega arith))
-        (same-part q p (96 + (16256 - body_bytes 16 n)) (96 + 16256) (h (omega arith)) l n (16352 - n) (omega arith) (omega arith))
 
 -- ---- pieces
 -- all pieces of a page: those of the rows, then those of the frame

@@ -30,6 +30,7 @@ pub struct Header {
 // An edit reads the header once, edits it field by field and writes it back.
 impl Header {
     // The header with another count.
+    #[tactic(auto, unfolding(crate::specs::Headers::with_count))]
     pub fn with_count(mut self, count: u16) -> Header
         ensures { result ≡ with_count self count }
     {
@@ -38,6 +39,7 @@ impl Header {
     }
 
     // The header with another start.
+    #[tactic(auto, unfolding(crate::specs::Headers::with_start))]
     pub fn with_start(mut self, start: u16) -> Header
         ensures { result ≡ with_start self start }
     {
@@ -46,6 +48,7 @@ impl Header {
     }
 
     // The header with another end.
+    #[tactic(auto, unfolding(crate::specs::Headers::with_end))]
     pub fn with_end(mut self, end: u16) -> Header
         ensures { result ≡ with_end self end }
     {
@@ -54,6 +57,7 @@ impl Header {
     }
 
     // The header with another effective space.
+    #[tactic(auto, unfolding(crate::specs::Headers::with_effective))]
     pub fn with_effective(mut self, effective: u32) -> Header
         ensures { result ≡ with_effective self effective }
     {

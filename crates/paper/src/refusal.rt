@@ -43,7 +43,7 @@ pub enum Refusal {
     OtherValue(u64),
 }
 
-// The refusal of an answer that is one. Any other has none, and 1 stands for it.
+// The refusal that an answer is, for `let Ok(..) = .. else`, document 01's form, which binds nothing; of an answer that is none it says 1.
 #[tactic(auto, unfolding(crate::specs::Refusals::refusal_of))]
 pub fn refusal_of<T: Copy>(answer: Result<T, Refusal>) -> Refusal
     ensures { result ≡ refusal_of answer }

@@ -5,9 +5,10 @@
 use dorgumanna::answer;
 use edit::{begin, change, insert};
 use hint::hints;
-use keys::{head, order, shared};
+use keys::{head, shared};
 use node::{header, space};
 use octets::number;
+use paper::refusal::Refusal;
 use std::cmp::Ordering;
 use std::io;
 use std::io::Write;
@@ -52,7 +53,7 @@ fn order_of<W: Write>(out: &mut W, a: &[u8], b: &[u8]) -> io::Result<()> {
     print_key(out, a)?;
     out.write_all(b" ")?;
     print_key(out, b)?;
-    match order::compare(a, b) {
+    match a.cmp(b) {
         Ordering::Less => out.write_all(b" -1\n"),
         Ordering::Equal => out.write_all(b" 0\n"),
         Ordering::Greater => out.write_all(b" 1\n"),
@@ -116,29 +117,28 @@ fn begin_of<W: Write>(out: &mut W, lower: &[u8], upper: &[u8]) -> io::Result<()>
 fn fill_page<W: Write>(out: &mut W) -> io::Result<()> {
     let mut page = begun(b"", b"", false);
     let mut tried = 0;
-    let mut number = 0;
+    let mut filed = Ok(0);
     for i in 0..2000 {
-        number = file_next(&mut page, i);
+        filed = file_next(&mut page, i);
         tried = i + 1;
-        if number != 0 {
+        if filed.is_err() {
             break;
         }
     }
+    let number = answer::tell(filed).number;
     write!(out, "fill {tried} {number}\n")
 }
 
-// Files the key that is `i` as four bytes, with the value `i`; answers 0, or the number of the refusal.
-fn file_next(page: &mut [u8], i: u32) -> u8 {
-    let mut key = [0u8; 4];
-    number::write_u32(&mut key, 0, i);
-    answer::tell(insert::insert(page, 8, &key, i as u64)).number
+// Files the key that is `i` as four bytes, with the value `i`; answers its slot number.
+fn file_next(page: &mut [u8], i: u32) -> Result<usize, Refusal> {
+    insert::insert(page, 8, &i.to_le_bytes(), u64::from(i))
 }
 
 // As many keys filed on a page with the hints flag: whether hints are in use, and the first hint.
 fn hints_of<W: Write>(out: &mut W, count: u32) -> io::Result<()> {
     let mut page = begun(b"", b"", true);
     for i in 0..count {
-        file_next(&mut page, i);
+        let _ = file_next(&mut page, i);
     }
     let h = header::read_header(&page);
     out.write_all(b"hints")?;
@@ -173,10 +173,7 @@ fn print_end<W: Write>(out: &mut W, page: &[u8]) -> io::Result<()> {
 
 // A blank, and 1 for yes or 0 for no.
 fn print_yes<W: Write>(out: &mut W, yes: bool) -> io::Result<()> {
-    if yes {
-        return print_number(out, 1);
-    }
-    print_number(out, 0)
+    print_number(out, u64::from(yes))
 }
 
 // A blank and a number in decimal.
@@ -186,7 +183,7 @@ fn print_number<W: Write>(out: &mut W, n: u64) -> io::Result<()> {
 
 // A key in hex, "-" if it is empty.
 fn print_key<W: Write>(out: &mut W, key: &[u8]) -> io::Result<()> {
-    if key.len() == 0 {
+    if key.is_empty() {
         out.write_all(b"-")?;
     }
     for &byte in key {

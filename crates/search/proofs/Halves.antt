@@ -1,11 +1,11 @@
 -- Halving over slots, turn by turn. Assumes nothing.
 use Rattle.std.proofs.Common.{◌≡◌, refl, sym, ap, ◌∙◌, Bool, true, false, List, ℕ, ◌+◌, ◌-◌, ◌≤◌, ◌<◌, arith, eqb, eqb-true, eq-eqb, Ok, Err, Option, Some, None}
+use Rattle.std.proofs.lemmas.Bool.{both_ways}
 use Rattle.paper.specs.Searches.{middle, turn, passed}
 use Rattle.paper.specs.declared.refusal.Refusal.{Refusal}
 use Rattle.paper.proofs.Halving.{halving-end, halving-turn}
 use Rattle.search.specs.Slot.{met_at, halved, Ends}
 use Rattle.std.specs.Option.{option_eq}
-use Rattle.paper.proofs.Sorted.{never}
 use Rattle.std.specs.declared.cmp.Ordering.{Ordering}
 use Rattle.std.specs.declared.cmp.Ordering.TheVariants.{Less, Equal, Greater}
 use Rattle.search.specs.declared.halve.Halved.TheVariants.{Same as Halved-as-Same, Above as Halved-as-Above, Unmet as Halved-as-Unmet}
@@ -91,10 +91,10 @@ module _ (w : ℕ) (p : List ℕ) (end : ℕ) (x : List ℕ) (high : ℕ) where
 
 -- ---- the test of the slot that was met last
 pub met-last : (same : Option ℕ) (i : ℕ) → option_eq eqb same (Some i) ≡ true → same ≡ Some i
-met-last None i e = never false e refl
+met-last None i e = absurd (both_ways false refl e)
 met-last (Some m) i e = ap Some (eqb-true m i e)
 
 pub not-last : (same : Option ℕ) (i : ℕ) → option_eq eqb same (Some i) ≡ false → same ≡ Some i → ⊥
-not-last same i e k = never (option_eq eqb same (Some i)) (rw k (eq-eqb i i refl)) e
+not-last same i e k = absurd (both_ways (option_eq eqb same (Some i)) e (rw k (eq-eqb i i refl)))
 
 pub ruleset halvings = (halved-refused, halved-below, halved-passed, halved-equal, halved-above, last_none, last-equal, last-above, ends-unmet, ends_same, ends_above, met-last, not-last)

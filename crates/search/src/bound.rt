@@ -11,7 +11,8 @@ use node::admit;
 use octets::number;
 use paper::refusal::Refusal;
 
-// The bound of a probe's suffix on a page: 14.
+// The bound of a probe's suffix on a page: 14. Page, width and their facts stay clauses, so that it asks no more of callers than the
+// page; `upper` is a bool as in `halve`.
 #[tactic(auto, using(crate::proofs::Seeking::bounds))]
 pub fn bound_at(p: &[u8], width: u8, suffix: &[u8], upper: bool) -> Result<usize, Refusal>
     requires { (16384 ≤ length p.now) × (8 * (header_of p.now).count ≤ 16256) }

@@ -12,6 +12,7 @@ use paper::refusal::Refusal;
 use std::cmp::Ordering;
 
 // -1, 0 or 1 for a slot against a probe of that class: every slot is above a probe before the prefix, below one after it.
+// The three numbers are document 01's.
 #[tactic(auto, using(crate::proofs::Signs::signs), unfolding(paper::specs::Searches::sign_of))]
 fn sign(class: u8, o: Ordering) -> i8
     ensures { result ≡ sign_by class o }

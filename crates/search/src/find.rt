@@ -12,7 +12,8 @@ use octets::number;
 use paper::answers::Found;
 use paper::refusal::Refusal;
 
-// Find of a probe's suffix on a page: the bound, and whether the slot there is equal; 14.
+// Find of a probe's suffix on a page: the bound, and whether the slot there is equal; 14. Page, width and their
+// facts stay clauses, as in `bound_at`.
 #[tactic(auto, using(crate::proofs::Seeking::finds))]
 pub fn find_at(p: &[u8], width: u8, suffix: &[u8]) -> Result<Found, Refusal>
     requires { (16384 ≤ length p.now) × (8 * (header_of p.now).count ≤ 16256) }

@@ -21,7 +21,8 @@ pub enum Halved {
 
 // The first slot of a window that is not passed, as halving finds it: slots below are, and for the upper bound equal ones too;
 // 14 where a slot visited refuses. `same` is the last slot met as equal and not passed. `upper` stays a bool, which the paper's `turn` and
-// the contract of `bound_at` take: an enum would need a word that turns it into one in every contract.
+// the contract of `bound_at` take: an enum would need a word that turns it into one in every contract. It is no `binary_search`: a slot that
+// is met may refuse, and which slots are visited is promised.
 #[tactic(auto, using(crate::proofs::Halves::halvings), unfolding(paper::specs::Refusals::refusal_of))]
 pub(crate) fn halve(
     slots: Slots<'_>,

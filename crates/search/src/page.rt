@@ -31,7 +31,7 @@ impl<'p> Slots<'p> {
         number::read_u16(self.page, 6)
     }
 
-    // Whether hints are kept.
+    // The hints flag, as it stands.
     #[tactic(auto, unfolding(paper::specs::Page::header_of, paper::specs::Page::frame_of))]
     pub fn flag(self) -> u8
         ensures { result ≡ (header_of self.entry.page.now).flag }

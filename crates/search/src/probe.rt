@@ -9,7 +9,8 @@ use node::key;
 use octets::number;
 use std::cmp::Ordering;
 
-// Where the probe stands to the page's prefix: 0 before it, 1 within it, 2 after it.
+// Where the probe stands to the page's prefix: 0 before it, 1 within it, 2 after it. A number from a call of its
+// own, document 01's form of the class; `prefix_len` and its facts stay clauses: callers read that one number, not the header.
 #[tactic(auto, using(crate::proofs::Classes::classes))]
 pub fn class(p: &[u8], prefix_len: u16, probe: &[u8]) -> u8
     requires { (16384 ≤ length p.now) × (prefix_len ≤ 16256) }

@@ -40,7 +40,7 @@ fn slots_to_search(slots: Slots<'_>, head: u32) -> Window
     }
 }
 
-// The bound of a probe's suffix, and how the slot there was met: 14.
+// The bound of a probe's suffix, and how the slot there was met: 14. `upper` is a bool as in `halve`.
 #[tactic(auto, using(crate::proofs::Bounded::lying))]
 pub(crate) fn seek(slots: Slots<'_>, suffix: &[u8], upper: bool) -> Result<Halved, Refusal>
     ensures { SearchEnds upper slots.entry.width slots.entry.page.now suffix.now result }

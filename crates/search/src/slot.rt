@@ -57,7 +57,7 @@ fn rank(s: Slot, sought: Sought<'_>) -> Option<Ordering>
     None
 }
 
-// The suffix of a slot whose suffix is long.
+// The suffix of a slot whose suffix is long, read where it stands: `node::key::suffix` would ask for a head's bytes and test the length again.
 #[tactic(auto, unfolding(octets::specs::Bytes::part))]
 fn long_suffix(p: &[u8], s: Slot) -> &[u8]
     requires { 96 + s.offset + s.len ≤ length p.now }
@@ -67,8 +67,8 @@ fn long_suffix(p: &[u8], s: Slot) -> &[u8]
     &p[start..start + (s.len as usize)]
 }
 
-// How a slot meets a probe's suffix, for halving alone: it has the only call of `keys::order::compare`, which so melts into the search.
-// It shares only these lines with `meets_alone`; one function lent the comparison would need a clause on what that answers, and is no plainer.
+// How a slot meets a probe's suffix, for halving alone: with one caller it melts into the search. `meets_alone` and `meet_alone` are its like for
+// other callers, and answer 10 too.
 #[tactic(auto, using(crate::proofs::Meets::meeting))]
 fn meets(p: &[u8], s: Slot, sought: Sought<'_>) -> Ordering
     requires { 96 + s.offset + body_bytes 4 s.len ≤ length p.now }

@@ -8,5 +8,6 @@ pub mod Judged
 pub mod Broken
 pub mod Fitting
 pub mod Fitness
+pub mod Judgements
 pub mod Starting
 pub mod Sweeping

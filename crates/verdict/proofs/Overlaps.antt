@@ -1,12 +1,12 @@
 -- U3 pair by pair: two pieces overlap where the later start lies before the earlier end. Assumes nothing.
 use Rattle.std.proofs.Common.{◌≡◌, refl, sym, ◌∙◌, Bool, true, false, List, ℕ, ◌+◌, ◌≤◌, ◌<◌, min, max, arith, le-leb, ltb-true, ltb-false, ltb}
+use Rattle.std.proofs.lemmas.Bool.{both_ways}
 use native.Mathlib.Decide.{dec_lt}
 use borrow.Author.Tests.{lt-leb}
 use Rattle.paper.specs.Lists.{tab}
 use Rattle.paper.specs.Verdicts.{Piece, apart}
 use Rattle.paper.specs.declared.page.Header.{Header}
 use Rattle.paper.proofs.Lists.{pairs-at, pairs_of, length-tab, getD-tab}
-use Rattle.paper.proofs.Sorted.{never}
 use Rattle.verdict.specs.Pieces.{piece_at, disjoint_with}
 use Rattle.verdict.specs.Marks.{disjoint_to}
 
@@ -80,6 +80,5 @@ module _ (w : ℕ) (p : List ℕ) (h : Header) where
     where
       go : (t : Bool) → disjoint_with w p h ≡ t → t ≡ false
       go true q =
-          never true refl
-          (sym (to_clear (h.count + 3) (sym to-all ∙ q) j b i l) ∙ touch-yes (piece_at w p h i) (piece_at w p h j) xl xh yl yh x.0 x.1 y.0 y.1 e)
+          absurd (both_ways true (sym (to_clear (h.count + 3) (sym to-all ∙ q) j b i l) ∙ touch-yes (piece_at w p h i) (piece_at w p h j) xl xh yl yh x.0 x.1 y.0 y.1 e) refl)
       go false q = refl

@@ -1,6 +1,7 @@
 -- U2 and the pieces by a header: what a turn of the loop over slots says, which piece stands at a place, and that with the page's own header they are
 -- the paper's. Assumes nothing.
 use Rattle.std.proofs.Common.{◌≡◌, refl, sym, ap, ◌∙◌, Bool, true, false, List, [], ◌∷◌, ◌++◌, map, ℕ, zero, suc, ◌+◌, ◌*◌, ◌≤◌, ◌<◌, zero-add, arith, lt-ltb, le-ltb, eq-eqb, ne_eqb, Ok, Err}
+use Rattle.std.proofs.lemmas.Bool.{both_ways}
 use native.Mathlib.Decide.{dec_lt, dec_le}
 use Rattle.keys.specs.Choice.{pick}
 use Rattle.paper.specs.Lists.{tab, all, pairs}
@@ -11,7 +12,6 @@ use Rattle.paper.specs.declared.page.Slot.{Slot}
 use Rattle.paper.specs.declared.page.Header.{Header}
 use Rattle.paper.specs.declared.refusal.Refusal.{Refusal}
 use Rattle.paper.proofs.Lists.{all-at, all_of, length-tab, getD-tab, tab-ext}
-use Rattle.paper.proofs.Sorted.{never}
 use Rattle.paper.proofs.Same.{body_bytes_short}
 use Rattle.paper.proofs.Fit.{Lie, within_fact}
 use Rattle.node.specs.Header.{rules_of}
@@ -82,7 +82,7 @@ module _ (w : ℕ) (p : List ℕ) (h : Header) where
   held-not n q l e = go (held_with w p h) refl
     where
       go : (b : Bool) → held_with w p h ≡ b → b ≡ false
-      go true f = never true refl (sym (held-slot f n l) ∙ sym (visit-test n l) ∙ slot-refused w p h.count h.end n q e true (λ r. false))
+      go true f = absurd (both_ways true (sym (held-slot f n l) ∙ sym (visit-test n l) ∙ slot-refused w p h.count h.end n q e true (λ r. false)) refl)
       go false f = refl
 
 -- ---- the piece at a place

@@ -1,6 +1,7 @@
 -- Suffixes of slots: the head that a suffix has as code finds it, the slot that has this head, and which of two suffixes is below.
 -- Assumes nothing.
 use Rattle.std.proofs.Common.{◌≡◌, refl, sym, ap, ◌∙◌, Bool, true, false, not, ◌||◌, ◌⊎◌, inl, inr, ⊎_elim, List, ℕ, ◌+◌, ◌-◌, ◌*◌, ◌/◌, ◌^◌, ◌≤◌, ◌<◌, arith, lt-ltb, le-ltb, ltb-true, ltb-false, eqb-true, ltb, eqb, length, take, drop}
+use Rattle.std.proofs.lemmas.Bool.{both_ways}
 use native.Mathlib.Decide.{dec_le}
 use borrow.Author.Tests.{lt-leb}
 use Rattle.octets.specs.Bytes.{IsBytes, le, be, part, big_bytes}
@@ -15,7 +16,7 @@ use Rattle.keys.proofs.Words.{word_out}
 use Rattle.paper.specs.Lists.{less}
 use Rattle.paper.specs.Page.{slot_at, suffix_of}
 use Rattle.paper.specs.declared.page.Slot.{Slot}
-use Rattle.paper.proofs.Sorted.{never, order-less}
+use Rattle.paper.proofs.Sorted.{order-less}
 use Rattle.paper.proofs.CopyingCall.{suffix-bytes}
 use Rattle.node.proofs.Spelling.{suffix-short, suffix-long, length_four}
 use Rattle.verdict.specs.Honest.{Honest}
@@ -139,7 +140,7 @@ alike_long x n e = go (eqb x n) refl e
   where
     go : (t : Bool) → eqb x n ≡ t → (not t || ltb n 16) ≡ false → (x ≡ n) × (16 ≤ n)
     go true q f = (eqb-true x n q, ltb-false n 16 f)
-    go false q f = never true refl f
+    go false q f = absurd (both_ways true f refl)
 
 pub below_same : (p : List ℕ) (s t b : Slot) (x : Bool) → s ≡ t → x ≡ less (suffix_of p s) (suffix_of p b) → x ≡ true → less (suffix_of p t) (suffix_of p b) ≡ true
 below_same p s t b x e f r = rw (← e) (sym f ∙ r)

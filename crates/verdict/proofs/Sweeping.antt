@@ -1,6 +1,7 @@
 -- One sweep over the entries: where pieces lie, one entry more that was swept, all pieces apart, and the first and the last entry that tell
 -- whether all lie within the fences. Assumes nothing.
 use Rattle.std.proofs.Common.{◌≡◌, refl, sym, ap, ◌∙◌, Bool, true, false, not, ◌&&◌, ◌||◌, List, [], ℕ, zero, suc, ◌+◌, ◌-◌, ◌*◌, ◌^◌, ◌≤◌, ◌<◌, arith, add-one, eq-eqb, lt-ltb, eqb, length}
+use Rattle.std.proofs.lemmas.Bool.{both_ways}
 use native.Mathlib.Decide.{dec_lt, dec_le}
 use borrow.Author.Tests.{not-true}
 use Rattle.octets.specs.Bytes.{IsBytes}
@@ -14,7 +15,7 @@ use Rattle.paper.specs.Verdicts.{Piece, slot_payload, fence_piece, prefix_piece,
 use Rattle.paper.specs.declared.page.Slot.{Slot}
 use Rattle.paper.specs.declared.page.Header.{Header}
 use Rattle.paper.proofs.Lists.{both_parts, both_yes, length-tab, getD-tab}
-use Rattle.paper.proofs.Sorted.{never, less_trans}
+use Rattle.paper.proofs.Sorted.{less_trans}
 use Rattle.paper.proofs.Swaps.{rising_at}
 use Rattle.paper.proofs.Same.{body_bytes_short, body_bytes_long}
 use Rattle.paper.proofs.Fit.{Lie, within_fact}
@@ -219,8 +220,8 @@ module _ (n : ℕ) (f : ℕ → List ℕ) (r : rising (tab n f) ≡ true) where
       where
         go : Dec (0 < i) → (b : Bool) → less (f i) low ≡ b → not b ≡ true
         go d false q = refl
-        go (no d) true q = let g : i ≡ 0 = omega arith in never (less (f 0) low) (rw g at q) (not-true (less (f 0) low) a)
-        go (yes d) true q = never (not (less (f 0) low)) a (ap not (less_trans (f 0) (f i) low (up 0 i d l) q))
+        go (no d) true q = let g : i ≡ 0 = omega arith in absurd (both_ways (less (f 0) low) (not-true (less (f 0) low) a) (rw g at q))
+        go (yes d) true q = absurd (both_ways (not (less (f 0) low)) (ap not (less_trans (f 0) (f i) low (up 0 i d l) q)) a)
 
     below-high : pick e true (less (f (n - 1)) high) ≡ true → (i : ℕ) → i < n → pick e true (less (f i) high) ≡ true
     below-high a i l = go e refl (dec_lt i (n - 1))

@@ -1,11 +1,11 @@
 -- Both verdicts by a header that was read, and a page that is fit.
-use Rattle.std.specs.Prelude.{ℕ, Bool, not, List, [], ◌∷◌, leb, eqb, Result, Ok, Err}
+use Rattle.std.specs.Prelude.{⊤, ℕ, Bool, not, List, [], ◌∷◌, leb, eqb, Result, Ok, Err}
 use Rattle.keys.specs.Choice.{both}
 use Rattle.paper.specs.Lists.{every}
 use Rattle.paper.specs.Page.{header_of}
 use Rattle.paper.specs.Verdicts.{first_broken}
 use Rattle.paper.specs.Refusals.{Check, check, judge}
-use Rattle.paper.specs.Calls.{page_length, width_known, is_fit}
+use Rattle.paper.specs.Calls.{page_length, width_known, verdict_checks, is_fit}
 use Rattle.paper.specs.declared.page.Header.{Header}
 use Rattle.paper.specs.declared.refusal.Refusal.TheVariants.{KeyLength}
 use Rattle.node.specs.Header.{rules_of}
@@ -13,6 +13,10 @@ use Rattle.verdict.specs.Pieces.{held_with, disjoint_with}
 use Rattle.verdict.specs.Tally.{tally_of, fences_rise_with, fences_faithful_with, fences_fit_with, effective_with, hints_fresh_with}
 use Rattle.verdict.specs.declared.tally.Tally.{Tally}
 use Rattle.paper.specs.declared.refusal.Refusal.{Refusal}
+
+-- 1, 2: what every verdict is asked with
+unfoldable pub judgeable_of : ℕ → List ℕ → Result ⊤ Refusal
+judgeable_of w p = judge (verdict_checks w p) (Ok tt) Err
 
 -- U4 to U9, t being the tally of all entries
 abbrev pub key_rules : List ℕ → Header → Tally → List Bool

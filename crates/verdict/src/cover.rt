@@ -60,6 +60,7 @@ fn enter(map: &mut [u8], e: Extent) -> bool
 }
 
 impl Judged<'_> {
+    // That U2 holds stays a clause: it is found between two methods of one page, and a type for it would be a second `Judged`.
     // How many pieces, one after the other, find their bytes free. Those are disjoint.
     pub fn clear(&self) -> usize
         requires { held_with self.now.width self.now.page.now self.now.header ≡ true }

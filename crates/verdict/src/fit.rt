@@ -5,9 +5,10 @@ ghost use Rattle.paper.specs.Calls.{fit_verdict};
 ghost use Rattle.verdict.specs.Fits.{key_rules, fit_header_of, fit_admit_of};
 ghost use Rattle.verdict.specs.Weighed.{first_rule, broken_with};
 
+use crate::judgeable;
 use crate::subject::Judged;
 use crate::tally::Tally;
-use node::{admit, header};
+use node::header;
 use paper::page::Header;
 use paper::refusal::Refusal;
 
@@ -39,7 +40,7 @@ impl Judged<'_> {
     }
 }
 
-// The first rule broken on a page.
+// The first rule broken on a page. `map_or` would call the method from a closure, as `layout::layout_right`.
 fn first_broken(p: &[u8], width: u8) -> Option<u8>
     requires { 16384 ≤ length p.now }
     ensures { result ≡ broken_with width p.now (header_of p.now) }
@@ -51,15 +52,11 @@ fn first_broken(p: &[u8], width: u8) -> Option<u8>
 }
 
 // The fit verdict: 0, or the first rule broken. Refuses 1, 2.
+#[tactic(auto, using(crate::proofs::Judgements::verdicts))]
 pub fn fit_verdict(p: &[u8], width: u8) -> Result<u8, Refusal>
     ensures { result ≡ fit_verdict width p.now }
 {
-    if p.len() != 16384 {
-        return Err(Refusal::PageLength);
-    }
-    if !admit::known_width(width) {
-        return Err(Refusal::Width);
-    }
+    judgeable::judgeable(p, width)?;
     Ok(first_broken(p, width).unwrap_or(0))
 }
 
@@ -75,15 +72,11 @@ pub fn fit_header(p: &[u8], width: u8) -> Result<Header, Refusal>
 }
 
 // 1, 2, 3 and 5 in this order, for a call whose key has `key_len` bytes; else the header. What an edit begins with.
+#[tactic(auto, using(crate::proofs::Judgements::admitting_fit))]
 pub fn admit_fit(p: &[u8], width: u8, key_len: usize) -> Result<Header, Refusal>
     ensures { result ≡ fit_admit_of width p.now key_len }
 {
-    if p.len() != 16384 {
-        return Err(Refusal::PageLength);
-    }
-    if !admit::known_width(width) {
-        return Err(Refusal::Width);
-    }
+    judgeable::judgeable(p, width)?;
     if 65535 < key_len {
         return Err(Refusal::KeyLength);
     }

@@ -6,9 +6,9 @@ ghost use Rattle.keys.specs.Choice.{both};
 ghost use Rattle.verdict.specs.Tally.{fences_rise_with};
 ghost use Rattle.verdict.specs.Fits.{empty_leaf_with, layout_with};
 
+use crate::judgeable;
 use crate::subject::Judged;
 use crate::tally::Tally;
-use node::admit;
 use paper::refusal::Refusal;
 
 impl Judged<'_> {
@@ -40,7 +40,7 @@ impl Judged<'_> {
     }
 }
 
-// Whether the layout of a page is right.
+// Whether the layout of a page is right. `is_some_and` would call the method from a closure, which is one more function to prove.
 fn layout_right(p: &[u8], width: u8) -> bool
     requires { 16384 ≤ length p.now }
     ensures { result ≡ layout_with width p.now (header_of p.now) }
@@ -52,14 +52,10 @@ fn layout_right(p: &[u8], width: u8) -> bool
 }
 
 // The layout verdict. Refuses 1, 2.
+#[tactic(auto, using(crate::proofs::Judgements::verdicts))]
 pub fn layout_verdict(p: &[u8], width: u8) -> Result<bool, Refusal>
     ensures { result ≡ layout_verdict width p.now }
 {
-    if p.len() != 16384 {
-        return Err(Refusal::PageLength);
-    }
-    if !admit::known_width(width) {
-        return Err(Refusal::Width);
-    }
+    judgeable::judgeable(p, width)?;
     Ok(layout_right(p, width))
 }

@@ -5,6 +5,7 @@ mod cells;
 mod cover;
 mod fences;
 pub mod fit;
+mod judgeable;
 pub mod layout;
 mod overlap;
 mod pieces;

@@ -26,7 +26,7 @@ impl Judged<'_> {
     }
 
     // Whether no two pieces overlap. The map tells how many are free of overlaps, on most pages all; the search goes on from there.
-    // On its own, as `tally_entries`.
+    // On its own, as `tally_entries`. That U2 holds stays a clause, as of `clear`.
     #[inline(never)]
     pub fn disjoint(&self) -> bool
         requires { held_with self.now.width self.now.page.now self.now.header ≡ true }

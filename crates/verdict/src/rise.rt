@@ -15,12 +15,10 @@ fn same_16(a: &[u8], b: &[u8], i: usize) -> bool
     requires { (i + 16 ≤ length a.now) × (i + 16 ≤ length b.now) }
     ensures { result ≡ true → i ≤ common a.now b.now → i + 16 ≤ common a.now b.now }
 {
-    let one = number::read_u64(a, i) == number::read_u64(b, i);
-    let two = number::read_u64(a, i + 8) == number::read_u64(b, i + 8);
-    one & two
+    number::array::<16>(a, i) == number::array::<16>(b, i)
 }
 
-// A place up to which two suffixes agree, 16 bytes or more before their end.
+// A place up to which two suffixes agree, 16 bytes or more before their end: std has no method for where two runs part.
 fn fork(a: &[u8], b: &[u8]) -> usize
     requires { (16 ≤ length a.now) × (length a.now ≤ length b.now) }
     ensures { (result + 16 ≤ length a.now) × (result ≤ common a.now b.now) }
@@ -51,7 +49,7 @@ fn words_below(a: &[u8], b: &[u8]) -> bool
 }
 
 // Whether the suffix of the slot at `at` is below that of `b`, both with the heads that their suffixes have. Suffixes of one length
-// are compared by words. Inlined for the sweep, as `above`.
+// are compared by words, read where they stand: both are long. Inlined for the sweep, as `above`.
 #[inline(always)]
 pub(crate) fn rises(p: &[u8], at: usize, b: Slot) -> bool
     requires { (at + 8 ≤ length p.now) × Honest p.now (slot_at p.now at) × Honest p.now b }

@@ -25,7 +25,7 @@ fn kept(head: u32, n: u16) -> u32
     }
 }
 
-// The head of a slot's suffix, whatever head the slot has.
+// The head of a slot's suffix, whatever head the slot has: of a long one it is the four bytes where it begins, and no more is read.
 pub(crate) fn true_head(p: &[u8], s: Slot) -> u32
     requires { 4 < s.len → 96 + s.offset + s.len ≤ length p.now }
     ensures { (result ≡ head_of (suffix_of p.now s)) × (s.head < 256 ^ 4) }
@@ -47,7 +47,8 @@ pub fn honest(p: &[u8], s: Slot) -> Slot
     }
 }
 
-// Whether the bytes of one long suffix are below those of another.
+// Whether the bytes of one long suffix are below those of another. Both are read where they stand: `node::key::suffix` would want the
+// bytes of a head and test lengths that are known.
 fn bytes_below(p: &[u8], a: Slot, b: Slot) -> bool
     requires { (4 < a.len) × (4 < b.len) × (96 + a.offset + a.len ≤ length p.now) × (96 + b.offset + b.len ≤ length p.now) }
     ensures { result ≡ less (suffix_of p.now a) (suffix_of p.now b) }

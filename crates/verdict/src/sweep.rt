@@ -1,5 +1,5 @@
 // One sweep over a page that is as it should be: U2, U3, U7 and U4 of the entries at once. Where it does not show them the rules are
-// tested one after the other.
+// tested one after the other. That U2 holds stays a clause, as of `clear`, and so does `Room`, which speaks of the page and of the map at once.
 ghost use Rattle.std.specs.Prelude.{◌≡◌, true, ◌+◌, ◌-◌, ◌≤◌, ◌<◌, length, IfSome};
 ghost use Rattle.paper.specs.Lists.{less};
 ghost use Rattle.paper.specs.Page.{suffix_of};
@@ -20,6 +20,7 @@ use paper::page::Slot;
 
 // Whether the key of entry `i` is above that of the entry before it, if there is one, `last` being that one's head. `s` is the slot
 // of entry `i`. The sweep is compiled for two sizes of map: a call for each entry would cost a fifth of a verdict.
+// `tally::follows` asks the same of slots whose stored heads may be wrong; here each head was tested, so they are compared as stored.
 #[inline(always)]
 fn above(p: &[u8], i: usize, last: Option<u32>, s: Slot) -> bool
     requires { HeadBefore p.now i last × (i < 2032) × (16384 ≤ length p.now) × Honest p.now s }

@@ -22,6 +22,7 @@ pub struct Tally {
 }
 
 // Whether the suffix of a slot is above that of the slot before it, if there is one; both have the heads that their suffixes have.
+// It may not trust stored heads, so it takes both slots as honest ones; the sweep, which stops at the first head that is not, has `above`.
 fn follows(p: &[u8], last: Option<Slot>, s: Slot) -> bool
     requires { IfSome last (Honest p.now) × Honest p.now s }
     ensures { MatchOption last (result ≡ true) (λ l. result ≡ less (suffix_of p.now l) (suffix_of p.now s)) }
@@ -48,7 +49,7 @@ impl Judged<'_> {
     }
 
     // One pass over the entries of a page whose payloads lie within it: all that U4, U6, U7 and U8 ask of them. On its own, as
-    // `disjoint`: where they melt into `weighed`, a verdict rule by rule takes a tenth more instructions.
+    // `disjoint`: where they melt into `weighed`, a verdict rule by rule takes a tenth more instructions. That U2 holds stays a clause, as of `clear`.
     #[inline(never)]
     pub fn tally_entries(&self) -> Tally
         requires { held_with self.now.width self.now.page.now self.now.header ≡ true }

@@ -12,7 +12,7 @@ use paper::page::Slot;
 use std::cmp::Ordering;
 
 // A key: the page's prefix, then a suffix of `len` bytes, which is `suffix` where it is longer than four and else the first
-// of the `short` bytes. Anyone may build one, so there is no invariant: each method asks for what it needs.
+// of the `short` bytes: document 01's form. Anyone may build one, so there is no invariant: each method asks for what it needs.
 #[derive(Clone, Copy)]
 pub struct KeyView<'p> {
     pub prefix: &'p [u8],
@@ -21,8 +21,8 @@ pub struct KeyView<'p> {
     pub len: usize,
 }
 
-// The long suffix of a slot as it stands on the page; no bytes where the suffix is short. It asks less of the page than a whole
-// view does, and so stands by itself.
+// The long suffix of a slot as it stands on the page; no bytes where the suffix is short, where `node::key::suffix` gives the head's. It asks
+// less of the page than a whole view does, and so stands by itself.
 #[tactic(auto, unfolding(paper::specs::Page::body_bytes, octets::specs::Bytes::part))]
 pub fn long_suffix(p: &[u8], s: Slot) -> &[u8]
     requires { 96 + s.offset + body_bytes 4 s.len ≤ length p.now }

@@ -1,4 +1,5 @@
 // Change key: another suffix for a slot, in place or, where it outgrows the old one, in a new payload.
+// Page, header and width stay parameters for the reason that stands in insert.rt.
 ghost use Rattle.std.specs.Prelude.{◌≡◌, true, ◌+◌, ◌-◌, ◌*◌, ◌≤◌, length};
 ghost use Rattle.octets.specs.Bytes.{le, put};
 ghost use Rattle.keys.specs.Choice.{pick};

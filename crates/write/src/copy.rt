@@ -1,4 +1,5 @@
 // Run copy: entries of one page appended to another, their keys cut anew under the other's prefix.
+// The page that is written, its header and the width stay parameters for the reason that stands in insert.rt.
 ghost use Rattle.std.specs.Prelude.{◌≡◌, ◌+◌, ◌*◌, ◌≤◌, ◌<◌, length};
 ghost use Rattle.paper.specs.Page.{numbers_of, header_of};
 ghost use Rattle.paper.specs.Edits.{more, numbered, appended, run_copied};

@@ -8,4 +8,4 @@ mod numbers;
 mod payload;
 pub mod set;
 pub mod slot;
-mod suffix;
+pub mod suffix;

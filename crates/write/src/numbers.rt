@@ -1,4 +1,5 @@
 // The four numbers that edits change: those of the header after an edit, and written back.
+// Page, header and width stay parameters for the reason that stands in insert.rt.
 ghost use Rattle.std.specs.Prelude.{◌≡◌, ◌+◌, ◌≤◌, ◌<◌, length};
 ghost use Rattle.paper.specs.Space.{payload_bytes};
 ghost use Rattle.paper.specs.Edits.{put_all, number_fields, more};

@@ -1,4 +1,5 @@
 // Set value: the value of a slot written over.
+// Page and width stay parameters for the reason that stands in insert.rt.
 ghost use Rattle.std.specs.Prelude.{◌≡◌, ◌+◌, ◌*◌, ◌≤◌, length};
 ghost use Rattle.paper.specs.Page.{slot_of};
 ghost use Rattle.paper.specs.Space.{payload_bytes};

@@ -1,17 +1,18 @@
 // A suffix in two pieces, one after the other: what a run copy has of a key that is cut anew. The first piece of any other is empty.
 ghost use Rattle.std.specs.Prelude.{◌≡◌, ◌++◌, ◌+◌, ◌≤◌, length, drop, get_or};
 ghost use Rattle.octets.specs.Bytes.{put};
-ghost use Rattle.keys.specs.Keys.{head_of};
+ghost use Rattle.keys.specs.Keys.{head_of, order};
 ghost use Rattle.paper.specs.Page.{body_bytes};
 ghost use Rattle.paper.specs.Edits.{outline};
 
-use keys::head;
+use keys::{head, shared};
 use octets::runs;
+use std::cmp::Ordering;
 use std::marker::Model;
 
 // A clause sees the bytes of both pieces. Their number is one that a slot can hold.
 #[derive(Drop)]
-pub(crate) struct Suffix<'a> {
+pub struct Suffix<'a> {
     lead: &'a [u8],
     rest: &'a [u8],
 }
@@ -39,7 +40,7 @@ impl<'a> Suffix<'a> {
     }
 
     // A key in two pieces without its first `gone` bytes.
-    pub(crate) fn cut(lead: &'a [u8], rest: &'a [u8], gone: usize) -> Suffix<'a>
+    pub fn cut(lead: &'a [u8], rest: &'a [u8], gone: usize) -> Suffix<'a>
         requires { length lead.now + length rest.now ≤ 65535 + gone }
         ensures { result ≡ drop gone (lead.now ++ rest.now) }
     {
@@ -49,6 +50,18 @@ impl<'a> Suffix<'a> {
             lead: &lead[first..],
             rest: &rest[second..],
         }
+    }
+
+    // How it stands to another key.
+    #[tactic(auto, using(crate::proofs::Joins::by_pieces))]
+    pub fn order(&self, other: &[u8]) -> Ordering
+        ensures { result ≡ order self.now other.now }
+    {
+        let n = shared::common_prefix_len(self.lead, other);
+        if n < self.lead.len() {
+            return shared::order_by_shared(self.lead, other);
+        }
+        shared::order_by_shared(self.rest, &other[n..])
     }
 
     // How many bytes it has.
@@ -68,7 +81,7 @@ impl<'a> Suffix<'a> {
         }
     }
 
-    // The head, which may take bytes of both pieces.
+    // The head. It is padded here and not by `head::head_int` alone, since its four bytes may lie in both pieces.
     pub(crate) fn head(&self) -> u32
         ensures { result ≡ head_of self.now }
     {

@@ -11,7 +11,7 @@ returns-in_err-judge c = rw (handed_on c.from_residual.result _ c.from_residual.
 pub change_at-requires : goal.change_at-requires
 change_at-requires c =
     let pre = c.requires in
-    change-seat _ _ _ _ (sym c.judge.ensures ∙ c.in_ok-judge.was) _ c.suffix-suffix.ensures _ pre.0 pre.1 pre.2 pre.3 pre.4
+    change-seat _ _ _ _ (sym c.judge.ensures ∙ c.in_ok-judge.was) _ c.suffix-suffix.ensures _ pre.0.size pre.0.width pre.0.verdict pre.1 pre.0.key_length
 
 pub returns : goal.returns
 returns c = named_value_p_after (change-written _ _ _ _ (sym c.judge.ensures ∙ c.in_ok-judge.was) _ c.suffix-suffix.ensures _ c.change_at.ensures)

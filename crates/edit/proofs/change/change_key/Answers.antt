@@ -2,6 +2,7 @@
 use Rattle.std.proofs.Common.{sym, ◌∙◌}
 use Rattle.verdict.proofs.Fitness.{fitted}
 use Rattle.paper.proofs.Holding.{handed_on}
+use Rattle.edit.proofs.Testing.{tested}
 use Rattle.edit.proofs.Changes.{change-refused, change-fitted}
 use Rattle.octets.proofs.Clauses.{named_value_p_after}
 use Rattle.edit.proofs.change.change_key.Goals as goal
@@ -11,8 +12,8 @@ returns-in_err-h c = rw (handed_on c.from_residual.result _ c.from_residual.ensu
 
 pub change_fit-requires : goal.change_fit-requires
 change_fit-requires c =
-    let F = fitted _ _ _ _ (sym c.admit_fit.ensures ∙ c.in_ok-h.was) in
-    (F.size, F.width, F.verdict, F.header, F.key_length)
+    let told = sym c.admit_fit.ensures ∙ c.in_ok-h.was in
+    (tested _ _ _ _ told, (fitted _ _ _ _ told).header)
 
 pub returns : goal.returns
 returns c =

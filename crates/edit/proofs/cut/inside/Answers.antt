@@ -1,7 +1,7 @@
 -- The three ways out: below the lower fence, no upper fence, what the upper one says.
 use Rattle.std.proofs.Common.{sym, eq-eqb}
 use Rattle.search.proofs.Fences.{inside-below, inside-free, inside-upper}
-use Rattle.edit.proofs.cut.Pieces.inside.Goals as goal
+use Rattle.edit.proofs.cut.inside.Goals as goal
 
 pub returns-then-below : goal.returns-then-below
 returns-then-below c = sym (inside-below _ _ _ _ c.below.ensures c.if-below.true)

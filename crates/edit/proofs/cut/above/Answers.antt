@@ -4,7 +4,7 @@ use Rattle.std.specs.Ordering.{is_lt}
 use Rattle.keys.proofs.Orders.{order_flip}
 use Rattle.paper.specs.Lists.{less}
 use Rattle.edit.proofs.Cuts.{lt_reverse}
-use Rattle.edit.proofs.cut.Pieces.above.Goals as goal
+use Rattle.edit.proofs.cut.above.Goals as goal
 
 pub returns : goal.returns
 unfolding less
