@@ -1,4 +1,5 @@
-// The child of a probe. Page and header stay two parameters, with what the fit test found as clauses: only two functions take them.
+// The child of a probe. Page and header stay two parameters, with what the fit test found as clauses: `child_with` alone takes both. Slot -1
+// and no Option: document 01 and the C functions answer it so.
 ghost use Rattle.std.specs.Prelude.{◌≡◌, ◌*◌, ◌≤◌, length};
 ghost use Rattle.paper.specs.Page.{numbers_of, header_of};
 ghost use Rattle.paper.specs.Verdicts.{fit_of};

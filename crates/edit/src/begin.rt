@@ -69,7 +69,8 @@ impl<'a> Beginning<'a> {
         }
     }
 
-    // Writes the page of two fences that share `n` bytes: their runs, the header, and the inline prefix.
+    // Writes the page of two fences that share `n` bytes: their runs, the header, and the inline prefix. The lengths stay a clause, since a page
+    // that is lent to a write keeps no facts.
     fn write(&self, p: &mut [u8], n: usize)
         requires { (16384 ≤ length p.old) × (length self.now.lower ≤ 65535) × (length self.now.upper ≤ 65535) × (n ≡ common self.now.lower self.now.upper) × (fence_bytes n (length self.now.lower - n) (length self.now.upper - n) ≤ 16256) }
         ensures { p.new ≡ begun p.old self.now }

@@ -1,4 +1,5 @@
-// Where a source key, cut anew and in two pieces, stands to slots and fences. No key is put together.
+// Where a source key, cut anew and in two pieces, stands to slots and fences. No key is put together;
+// `search::fence` asks the same of one slice.
 ghost use Rattle.std.specs.Prelude.{◌≡◌, length};
 ghost use Rattle.keys.specs.Keys.{order};
 ghost use Rattle.paper.specs.Lists.{less};

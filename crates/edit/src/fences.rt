@@ -54,7 +54,8 @@ fn fence_slot(suffix: &[u8], at: usize) -> Slot
     }
 }
 
-// Writes a long prefix, a long lower suffix and a long upper suffix downward in that order, and no other byte.
+// Writes a long prefix, a long lower suffix and a long upper suffix downward in that order, and no other byte. The lengths stay a clause, as in
+// `Beginning::write`.
 pub(crate) fn put_fences(p: &mut [u8], prefix: &[u8], lower: &[u8], upper: &[u8]) -> Fences
     requires { (16384 ≤ length p.old) × (length lower.now ≤ 65535) × (length upper.now ≤ 65535) × (fence_bytes (length prefix.now) (length lower.now) (length upper.now) ≤ 16256) }
     ensures value { result ≡ fences_of prefix.now lower.now upper.now }

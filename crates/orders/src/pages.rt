@@ -42,7 +42,7 @@ pub(crate) fn file_at_once(page: &mut [u8], case: Case) -> usize {
     batch::file_batch(page, case.width, &buffer[..n]).unwrap_or(0)
 }
 
-// The records one after the other from the front of the buffer on; answers where they end.
+// The records one after the other from the front of the buffer on; answers where they end. A buffer with a place, since there is no heap.
 fn write_records(buffer: &mut [u8], case: Case) -> usize
     requires { 6240 ≤ length buffer.old }
     ensures { result ≤ 6240 }

@@ -18,7 +18,15 @@ pub fn bound_at(p: &[u8], width: u8, suffix: &[u8], upper: bool) -> Result<usize
     requires { (16384 ≤ length p.now) × (8 * (header_of p.now).count ≤ 16256) }
     ensures { result ≡ searched upper width p.now (header_of p.now) suffix.now }
 {
-    let ended = seek::seek(Slots { page: p, width }, suffix, upper)?;
+    let ended = seek::seek(
+        Slots {
+            page: p,
+            width,
+            payloads: number::read_u16(p, 6),
+        },
+        suffix,
+        upper,
+    )?;
     match ended {
         Halved::Same(i) | Halved::Above(i) | Halved::Unmet(i) => Ok(i),
     }
@@ -30,6 +38,7 @@ fn bound(p: &[u8], width: u8, key: &[u8], upper: bool) -> Result<usize, Refusal>
     ensures { result ≡ bound_of upper width p.now key.now }
 {
     admit::admit(p, width, key.len())?;
+    // the class is document 01's number, as in `probe::class`
     match probe::class(p, number::read_u16(p, 46), key) {
         0 => Ok(0),
         1 => bound_at(p, width, probe::suffix(p, key), upper),

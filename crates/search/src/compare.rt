@@ -36,7 +36,15 @@ pub fn compare_slot(p: &[u8], width: u8, i: usize, key: &[u8]) -> Result<i8, Ref
     ensures { result ≡ compare_of width p.now i key.now }
 {
     admit::admit(p, width, key.len())?;
-    let met = slot::meet_alone(Slots { page: p, width }, i, probe::suffix(p, key));
+    let met = slot::meet_alone(
+        Slots {
+            page: p,
+            width,
+            payloads: number::read_u16(p, 6),
+        },
+        i,
+        probe::suffix(p, key),
+    );
     let Ok(o) = met else {
         return Err(refusal::refusal_of(met));
     };

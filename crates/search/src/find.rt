@@ -19,7 +19,11 @@ pub fn find_at(p: &[u8], width: u8, suffix: &[u8]) -> Result<Found, Refusal>
     requires { (16384 ≤ length p.now) × (8 * (header_of p.now).count ≤ 16256) }
     ensures { result ≡ find_in width p.now (header_of p.now) suffix.now }
 {
-    let slots = Slots { page: p, width };
+    let slots = Slots {
+        page: p,
+        width,
+        payloads: number::read_u16(p, 6),
+    };
     let ended = seek::seek(slots, suffix, false)?;
     match ended {
         Halved::Same(i) => Ok(Found::Equal(i)),

@@ -9,11 +9,13 @@ use octets::number;
 pub struct Slots<'p> {
     pub page: &'p [u8],
     pub width: u8,
+    pub payloads: u16,
     ghost size: { 16384 ≤ length page.now },
     ghost fit: { 8 * (header_of page.now).count ≤ 16256 },
+    ghost begin: { payloads ≡ (header_of page.now).end },
 }
 
-// The header's numbers are read where they stand.
+// Count and flag are read where they stand in the header, once a search.
 impl<'p> Slots<'p> {
     // How many there are.
     #[tactic(auto, unfolding(paper::specs::Page::header_of, paper::specs::Page::numbers_of))]
@@ -23,12 +25,11 @@ impl<'p> Slots<'p> {
         number::read_u16(self.page, 2)
     }
 
-    // Where payloads begin.
-    #[tactic(auto, unfolding(paper::specs::Page::header_of, paper::specs::Page::numbers_of))]
+    // Where payloads begin: read once, since every slot met asks for it.
     pub fn end(self) -> u16
         ensures { result ≡ (header_of self.entry.page.now).end }
     {
-        number::read_u16(self.page, 6)
+        self.payloads
     }
 
     // The hints flag, as it stands.

@@ -7,10 +7,9 @@ ghost use Rattle.paper.specs.Searches.{slot_meets};
 ghost use Rattle.search.specs.Slot.{rank_of, met_at, met_alone};
 
 use crate::page::Slots;
-use keys::{head, order, shared};
+use keys::{head, order};
 use node::{header, slots};
 use paper::page::Slot;
-use paper::refusal;
 use paper::refusal::Refusal;
 use std::cmp::Ordering;
 
@@ -48,10 +47,7 @@ fn rank(s: Slot, sought: Sought<'_>) -> Option<Ordering>
     }
     let n = s.len as usize;
     let len = sought.suffix.len();
-    if n <= 4 {
-        return Some(order::by_number(n as u64, len as u64));
-    }
-    if len <= 4 {
+    if (n <= 4) | (len <= 4) {
         return Some(order::by_number(n as u64, len as u64));
     }
     None
@@ -67,8 +63,7 @@ fn long_suffix(p: &[u8], s: Slot) -> &[u8]
     &p[start..start + (s.len as usize)]
 }
 
-// How a slot meets a probe's suffix, for halving alone: with one caller it melts into the search. `meets_alone` and `meet_alone` are its like for
-// other callers, and answer 10 too.
+// How a slot meets a probe's suffix.
 #[tactic(auto, using(crate::proofs::Meets::meeting))]
 fn meets(p: &[u8], s: Slot, sought: Sought<'_>) -> Ordering
     requires { 96 + s.offset + body_bytes 4 s.len ≤ length p.now }
@@ -80,7 +75,7 @@ fn meets(p: &[u8], s: Slot, sought: Sought<'_>) -> Ordering
     o
 }
 
-// Slot `i` against a probe's suffix, for halving alone; 14 where its payload lies outside end..16,256.
+// Slot `i` against a probe's suffix; 14 where its payload lies outside end..16,256.
 #[tactic(auto, using(crate::proofs::Meets::meeting_at))]
 pub(crate) fn meet_at(slots: Slots<'_>, i: usize, sought: Sought<'_>) -> Result<Ordering, Refusal>
     requires { i < (header_of slots.page.now).count }
@@ -93,26 +88,13 @@ pub(crate) fn meet_at(slots: Slots<'_>, i: usize, sought: Sought<'_>) -> Result<
     Ok(meets(slots.page, s, sought))
 }
 
-// How a slot meets a probe's suffix, for calls that look at one slot: its bytes go by what they share.
-#[tactic(auto, using(crate::proofs::Meets::meeting))]
-fn meets_alone(p: &[u8], s: Slot, suffix: &[u8]) -> Ordering
-    requires { 96 + s.offset + body_bytes 4 s.len ≤ length p.now }
-    ensures { result ≡ slot_meets p.now s suffix.now }
-{
-    let Some(o) = rank(s, Sought::new(suffix)) else {
-        return shared::order_by_shared(long_suffix(p, s), suffix);
-    };
-    o
-}
-
-// Slot `i` against a probe's suffix, for calls that look at one slot; 10 and 14 as for every slot visited.
-#[tactic(auto, using(crate::proofs::Meets::meeting_alone), unfolding(paper::specs::Refusals::refusal_of))]
+// The same of a slot that may not be there: 10, then 14.
+#[tactic(auto, using(crate::proofs::Meets::meeting_alone))]
 pub(crate) fn meet_alone(slots: Slots<'_>, i: usize, suffix: &[u8]) -> Result<Ordering, Refusal>
     ensures { let h = header_of slots.entry.page.now in result ≡ met_alone slots.entry.width slots.entry.page.now h.count h.end suffix.now i }
 {
-    let read = slots::visit_slot(slots.page, slots.count(), slots.end(), slots.width, i);
-    let Ok(s) = read else {
-        return Err(refusal::refusal_of(read));
-    };
-    Ok(meets_alone(slots.page, s, suffix))
+    if (slots.count() as usize) <= i {
+        return Err(Refusal::SlotNumber);
+    }
+    meet_at(slots, i, Sought::new(suffix))
 }
