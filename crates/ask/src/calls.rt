@@ -21,16 +21,16 @@ use view::entry;
 
 // The registers, and the two runs of the request that is answered.
 #[derive(Drop)]
-pub(crate) struct Session {
+pub(crate) struct Conversation {
     registers: Registers,
     first: Run,
     second: Run,
 }
 
-impl Session {
+impl Conversation {
     // Registers and runs of no bytes.
     pub(crate) fn new() -> Self {
-        Session {
+        Conversation {
             registers: Registers::new(),
             first: Run::new(),
             second: Run::new(),
@@ -45,7 +45,7 @@ impl Session {
     // Answers the request that was received last.
     // One arm for each call: each has arguments and an answer of its own, so that closures would be the same lines.
     pub(crate) fn answer(&mut self, q: Request) -> Result<Reply<'_>, Broken> {
-        let Session {
+        let Conversation {
             registers,
             first,
             second,

@@ -8,23 +8,23 @@ mod registers;
 mod run;
 mod wire;
 
-use crate::calls::Session;
+use crate::calls::Conversation;
 use crate::wire::{Broken, Failure, Reply};
 use std::io;
 use std::io::{Read, Write};
 
 fn main(rt: HostRuntime) -> io::Result<()> {
-    let mut session = Session::new();
-    serve(&mut rt.stdin(), &mut rt.stdout(), &mut session)
+    let mut conversation = Conversation::new();
+    serve(&mut rt.stdin(), &mut rt.stdout(), &mut conversation)
 }
 
 // Answers all that the input holds. A request that cannot be carried to a call is told as such and is the last one.
 fn serve<R: Read, W: Write>(
     input: &mut R,
     output: &mut W,
-    session: &mut Session,
+    conversation: &mut Conversation,
 ) -> io::Result<()> {
-    match answer_all(input, output, session) {
+    match answer_all(input, output, conversation) {
         Ok(()) => Ok(()),
         Err(Failure::Broken) => Reply::from(Broken).write(output),
         Err(Failure::Io(e)) => Err(e),
@@ -36,13 +36,13 @@ fn serve<R: Read, W: Write>(
 fn answer_all<R: Read, W: Write>(
     input: &mut R,
     output: &mut W,
-    session: &mut Session,
+    conversation: &mut Conversation,
 ) -> Result<(), Failure> {
     for _ in 0..u64::MAX {
-        let Some(q) = session.receive(input)? else {
+        let Some(q) = conversation.receive(input)? else {
             break;
         };
-        session.answer(q)?.write(output)?;
+        conversation.answer(q)?.write(output)?;
     }
     Ok(())
 }
