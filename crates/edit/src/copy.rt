@@ -7,6 +7,7 @@ ghost use Rattle.paper.specs.Calls.{is_width, has_prefix, key_at, run_of, run_pa
 ghost use Rattle.edit.specs.RunTests.{Shown, Fenced, Meeting, standing, standing_from, passes_last, needs_from, run_judged, run_written};
 
 use crate::cut;
+use keys::shared;
 use node::{admit, header, key, space};
 use paper::page::Header;
 use paper::refusal::Refusal;
@@ -40,7 +41,7 @@ impl<'a> Run<'a> {
         let prefix = key::prefix(source, prefix_len);
         let whole = key::prefix(page, header.prefix_len);
         let cut = whole.len().min(prefix.len());
-        let alike = prefix[..cut] == whole[..cut];
+        let alike = shared::equal(&prefix[..cut], &whole[..cut]);
         Run {
             page,
             header,
@@ -64,7 +65,7 @@ impl<'a> Run<'a> {
         let four = key::head_bytes(s.head);
         let suffix = key::suffix(self.source, s, &four);
         let whole = key::prefix(self.page, self.header.prefix_len);
-        if !suffix.starts_with(&whole[self.cut..]) {
+        if !shared::begins_with(suffix, &whole[self.cut..]) {
             return Err(Refusal::Prefix);
         }
         let rest = Suffix::cut(self.prefix, suffix, whole.len());

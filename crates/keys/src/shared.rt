@@ -1,6 +1,6 @@
 // What two keys share: the length of their longest common prefix, whether they are equal, whether one begins with the
 // other, and their order.
-// The last three are std's methods under names whose promise is the paper's definition; other crates call them.
+// `equal` and `begins_with` are std's methods under names whose promise is the paper's definition; other crates call all four.
 #![tactic(auto, using(crate::proofs::Methods::comparing))]
 
 ghost use Rattle.std.specs.Prelude.{◌≡◌, ◌+◌, ◌≤◌, leb, length};
@@ -54,6 +54,18 @@ fn blocks(a: &[u8], b: &[u8], n: usize) -> usize
     n / 32 * 32
 }
 
+// Where a walk by words begins: keys of 64 bytes and more go by blocks first.
+#[inline(always)]
+pub(crate) fn first(a: &[u8], b: &[u8], n: usize) -> usize
+    requires { Reach a.now b.now 0 n }
+    ensures { Reach a.now b.now result n }
+{
+    if n < 64 {
+        return 0;
+    }
+    blocks(a, b, n)
+}
+
 // Words of eight bytes, the last one up to the end.
 fn words(a: &[u8], b: &[u8], from: usize, n: usize) -> usize
     requires { (8 ≤ n) × Reach a.now b.now from n }
@@ -94,8 +106,7 @@ pub fn common_prefix_len(a: &[u8], b: &[u8]) -> usize
     if n < 8 {
         return singles(a, b, n);
     }
-    let from = if n < 64 { 0 } else { blocks(a, b, n) };
-    words(a, b, from, n)
+    words(a, b, first(a, b, n), n)
 }
 
 // Whether two keys hold the same bytes.

@@ -1,9 +1,9 @@
 -- Decimal digits one at a time, from the last; hex digits a byte at a time, from the first. Assumes nothing.
-use Rattle.std.proofs.Common.{◌≡◌, refl, sym, ap, ◌∙◌, Bool, true, false, List, [], ◌∷◌, ◌++◌, append_assoc, ℕ, zero, suc, ◌+◌, ◌*◌, ◌/◌, ◌%◌, ◌^◌, ◌≤◌, ◌<◌, pow-suc, add-one, arith, lt-ltb, le-ltb, length, get_or, set, take, drop, length-append, length-set, drop_of_length-le, drop-cons, take_all, take-suc, take-suc-set}
+use Rattle.std.proofs.Common.{◌≡◌, refl, sym, ap, ◌∙◌, Bool, true, false, List, [], ◌∷◌, ◌++◌, append_assoc, ℕ, zero, suc, ◌+◌, ◌*◌, ◌-◌, ◌/◌, ◌%◌, ◌^◌, ◌≤◌, ◌<◌, pow-suc, add-one, arith, lt-ltb, le-ltb, length, get_or, set, take, drop, length-append, length-set, drop_of_length-le, drop-cons, take_all, take-suc, take-suc-set}
 use native.Mathlib.Decide.{dec_lt}
+use Rattle.std.proofs.lemmas.List.{drop-set}
 use mir.Val.{bool_byte}
 use Rattle.keys.specs.Choice.{pick}
-use Rattle.listing.specs.Line.{Line, Adds}
 use Rattle.listing.proofs.Writing.{adds-then, hex-append, length-hex, key-none, left-all, left-done}
 use Rattle.paper.specs.Printed.{decimal_in, decimal, number_words, hex_digit, hex_bytes}
 
@@ -53,14 +53,54 @@ length-turn n h l = rw (decimal-turn n h l, length-append)
 pub length-short : (n : ℕ) → n < 10 → length (decimal n) ≡ 1
 length-short n h = rw (decimal-short n h)
 
--- a text with the digits behind it, the last one by itself
-pub digits-short : (a b : Line) (n : ℕ) → n < 10 → Adds a ((48 + n % 10) ∷ []) b → Adds a (decimal n) b
-digits-short a b n h f =
-    let e : n % 10 ≡ n = omega arith in
-    rw (decimal-short n h, ← e) f
+pub length-two : (n : ℕ) → 10 ≤ n → n ≤ 99 → length (decimal n) ≡ 2
+length-two n h l = omega (arith, length-turn n h (omega arith), length-short (n / 10) (omega arith))
 
-pub digits-turn : (a b d : Line) (n : ℕ) → 10 ≤ n → n < 18446744073709551616 → Adds a (decimal (n / 10)) b → Adds b ((48 + n % 10) ∷ []) d → Adds a (decimal n) d
-digits-turn a b d n h l f g = rw (decimal-turn n h l) (adds-then a b d (decimal (n / 10)) ((48 + n % 10) ∷ []) f g)
+pub length-three : (n : ℕ) → 100 ≤ n → n ≤ 999 → length (decimal n) ≡ 3
+length-three n h l = omega (arith, length-turn n (omega arith) (omega arith), length-two (n / 10) (omega arith) (omega arith))
+
+pub length-four : (n : ℕ) → 1000 ≤ n → n ≤ 9999 → length (decimal n) ≡ 4
+length-four n h l = omega (arith, length-turn n (omega arith) (omega arith), length-three (n / 10) (omega arith) (omega arith))
+
+-- four digits less
+pub length-more : (n : ℕ) → 10000 ≤ n → n < 18446744073709551616 → length (decimal n) ≡ length (decimal (n / 10000)) + 4
+length-more n h l =
+    let a = length-turn n (omega arith) l in
+    let b = length-turn (n / 10) (omega arith) (omega arith) in
+    let c = length-turn (n / 10 / 10) (omega arith) (omega arith) in
+    let d = length-turn (n / 10 / 10 / 10) (omega arith) (omega arith) in
+    let e : n / 10 / 10 / 10 / 10 ≡ n / 10000 = omega arith in
+    rw (a, b, c, d, e) (omega arith)
+
+pub length-some : (n : ℕ) → 0 < length (decimal n)
+unfolding decimal
+length-some n =
+    elim (dec_lt n 10) [
+      | yes l ↦ rw (in_short 19 n l) (omega arith)
+      | no l ↦ rw (in_turn 18 n (omega arith), length-append) (omega arith)
+    ]
+
+-- how many digits say whether one is all
+more_left : (n : ℕ) → 1 < length (decimal n) → 10 ≤ n
+more_left n h = elim (dec_lt n 10) [ yes l ↦ absurd (omega (arith, length-short n l)) | no l ↦ omega arith ]
+
+pub one_left : (n : ℕ) → n < 18446744073709551616 → length (decimal n) ≤ 1 → n < 10
+one_left n l h = elim (dec_lt n 10) [ yes k ↦ k | no k ↦ absurd (omega (arith, length-turn n (omega arith) l, length-some (n / 10))) ]
+
+-- i digits of d are left, those of n, and behind them stand those of o from i on: the last one left is put before these
+module _ (o d : List ℕ) (n i : ℕ) (l : n < 18446744073709551616) (e : length (decimal n) ≡ i) where
+  pub length-less : 1 < i → length (decimal (n / 10)) ≡ i - 1
+  length-less h = omega (arith, length-turn n (more_left n (omega arith)) l)
+
+  pub write_turn : 1 < i → i ≤ length o → d ≡ decimal n ++ drop i o → d ≡ decimal (n / 10) ++ drop (i - 1) (set o (i - 1) (48 + n % 10))
+  write_turn h k f =
+      let a : i - 1 + 1 ≡ i = omega arith in
+      rw (f, decimal-turn n (more_left n (omega arith)) l, drop-set o (i - 1) (48 + n % 10) (omega arith), a) (append_assoc (decimal (n / 10)) ((48 + n % 10) ∷ []) (drop i o))
+
+  pub write_done : i ≤ 1 → i ≤ length o → d ≡ decimal n ++ drop i o → set o 0 (48 + n) ≡ d
+  write_done h k f =
+      let a : i ≡ 1 = omega (arith, length-some n) in
+      rw (f, decimal-short n (one_left n l (omega arith)), a) (drop-set o 0 (48 + n) (omega arith))
 
 -- ---- hex: a byte more
 module _ (o l : List ℕ) (i : ℕ) (n : length o ≡ 2 * length l) (f : take (2 * i) o ≡ hex_bytes (take i l)) where
@@ -98,4 +138,6 @@ pub ruleset keyed = (length-hex, key-none, length-append)
 
 pub ruleset numbered = (length-decimal, left-all, left-done, words-done)
 
-pub ruleset spelled = (length-turn, length-short)
+pub ruleset counted = (length-decimal, length-short, length-two, length-three, length-four, length-more)
+
+pub ruleset spelled = (length-some, one_left, length-less, write_turn, write_done)

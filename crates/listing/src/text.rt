@@ -74,15 +74,13 @@ impl<'a> Text<'a> {
     }
 
     // A number more, in decimal.
-    #[tactic(auto, using(crate::proofs::Decimals::spelled))]
     pub(crate) fn decimal(&mut self, n: u64)
         requires { length (decimal n) ≤ self.old.room }
         ensures { Adds self.old (decimal n) self.new }
     {
-        if 10 <= n {
-            self.decimal(n / 10);
-        }
-        self.push((48 + n % 10) as u8);
+        let end = self.len + decimal_len(n);
+        write_decimal(n, &mut self.bytes[self.len..end]);
+        self.len = end;
     }
 
     // Bytes more, in hex: two digits a byte.
@@ -107,6 +105,35 @@ impl<'a> Text<'a> {
         }
         self.push(b'\n');
     }
+}
+
+// How many digits `n` has: most numbers of a listing have at most four, and are told by comparisons alone.
+#[tactic(auto, using(crate::proofs::Decimals::counted))]
+fn decimal_len(n: u64) -> usize
+    ensures { result ≡ length (decimal n) }
+{
+    match n {
+        0..=9 => 1,
+        10..=99 => 2,
+        100..=999 => 3,
+        1000..=9999 => 4,
+        _ => 4 + decimal_len(n / 10000),
+    }
+}
+
+// The digits of `n`, which fill `out`, from the last one to the first.
+// By index, as `write_hex`: the proof speaks of the digits before a place.
+#[tactic(auto, using(crate::proofs::Decimals::spelled))]
+fn write_decimal(n: u64, out: &mut [u8])
+    requires { length out.old ≡ length (decimal n) }
+    ensures { out.new ≡ decimal n }
+{
+    let mut rest = n;
+    for i in (1..out.len()).rev() {
+        out[i] = (48 + rest % 10) as u8;
+        rest /= 10;
+    }
+    out[0] = (48 + rest) as u8;
 }
 
 // Bytes in hex, which fill `out`.

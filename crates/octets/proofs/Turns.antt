@@ -1,10 +1,22 @@
 -- What one turn of each loop of this crate does to `put` and `le`, and what is left where the loop ends. Assumes nothing.
-use Rattle.std.proofs.Common.{◌≡◌, List, ℕ, suc, ◌+◌, ◌*◌, ◌-◌, ◌/◌, ◌%◌, ◌^◌, ◌≤◌, ◌<◌, add-zero, lt_of_lt_of_le, add-one, arith, w8, Fits, length, get_or, set}
+use Rattle.std.proofs.Common.{◌≡◌, List, ℕ, suc, ◌+◌, ◌*◌, ◌-◌, ◌/◌, ◌%◌, ◌^◌, ◌≤◌, ◌<◌, add-zero, lt_of_lt_of_le, add-one, arith, w8, Fits, length, get_or, set, drop, drop_of_length-le, drop-cons}
 use native.Mathlib.Nat.{pow-le-pow_right}
 use borrow.Rule.Slice.PartMut.{put_mid, mid_of}
 use Rattle.octets.specs.Bytes.{IsBytes, le, bytes, put}
 use Rattle.octets.proofs.Put.{put_mid-put}
 use Rattle.octets.proofs.Little.{le-lt, length-bytes}
+
+-- ---- a run, copied from its front: the rest of s from place j on
+module _ (p : List ℕ) (o : ℕ) (s : List ℕ) (j : ℕ) where
+  pub copy-turn : j < length s → put p (o + j) (drop j s) ≡ put (set p (o + j) (get_or s j 0)) (o + (j + 1)) (drop (j + 1) s)
+  unfolding put
+  copy-turn h = let e : o + (j + 1) ≡ suc (o + j) = omega arith in rw (e, add-one j, drop-cons s j 0)
+
+  pub copy_done : length s ≤ j → put p (o + j) (drop j s) ≡ p
+  unfolding put
+  copy_done h = rw (drop_of_length-le s h)
+
+pub ruleset copying = (copy-turn, copy_done)
 
 -- ---- a number of any width, read from its highest byte
 -- a number of at most seven bytes leaves room for one more

@@ -5,7 +5,7 @@
 use dorgumanna::answer;
 use edit::{begin, change, insert};
 use hint::hints;
-use keys::{head, shared};
+use keys::{head, order, shared};
 use node::{header, space};
 use octets::number;
 use paper::refusal::Refusal;
@@ -53,7 +53,7 @@ fn order_of<W: Write>(out: &mut W, a: &[u8], b: &[u8]) -> io::Result<()> {
     print_key(out, a)?;
     out.write_all(b" ")?;
     print_key(out, b)?;
-    match a.cmp(b) {
+    match order::compare(a, b) {
         Ordering::Less => out.write_all(b" -1\n"),
         Ordering::Equal => out.write_all(b" 0\n"),
         Ordering::Greater => out.write_all(b" 1\n"),
@@ -95,16 +95,16 @@ fn forecast_of<W: Write>(out: &mut W, lower: &[u8], upper: &[u8]) -> io::Result<
     out.write_all(b"\n")
 }
 
-// A page of height 0 begun with two fences. Where that is refused the page is empty, and the next line shows it.
-fn begun(lower: &[u8], upper: &[u8], hints: bool) -> [u8; 16384] {
-    let mut page = [0u8; 16384];
-    let _ = begin::begin(&mut page, 0, 0, lower, 0, upper, hints);
-    page
+// Begins a page of height 0 with two fences. Where that is refused the page stays empty, and the next line shows it. The page is lent:
+// one given back by value would take its room of the stack twice.
+fn begin_page(page: &mut [u8], lower: &[u8], upper: &[u8], hints: bool) {
+    let _ = begin::begin(page, 0, 0, lower, 0, upper, hints);
 }
 
 // A page begun with two fences: its end and its effective space.
 fn begin_of<W: Write>(out: &mut W, lower: &[u8], upper: &[u8]) -> io::Result<()> {
-    let page = begun(lower, upper, false);
+    let mut page = [0u8; 16384];
+    begin_page(&mut page, lower, upper, false);
     out.write_all(b"begin ")?;
     print_key(out, lower)?;
     out.write_all(b" ")?;
@@ -115,7 +115,8 @@ fn begin_of<W: Write>(out: &mut W, lower: &[u8], upper: &[u8]) -> io::Result<()>
 
 // Keys of four bytes filed at width 8 on a page without fences until one is refused: which one is, and the number that it gets.
 fn fill_page<W: Write>(out: &mut W) -> io::Result<()> {
-    let mut page = begun(b"", b"", false);
+    let mut page = [0u8; 16384];
+    begin_page(&mut page, b"", b"", false);
     let mut tried = 0;
     let mut filed = Ok(0);
     for i in 0..2000 {
@@ -136,7 +137,8 @@ fn file_next(page: &mut [u8], i: u32) -> Result<usize, Refusal> {
 
 // As many keys filed on a page with the hints flag: whether hints are in use, and the first hint.
 fn hints_of<W: Write>(out: &mut W, count: u32) -> io::Result<()> {
-    let mut page = begun(b"", b"", true);
+    let mut page = [0u8; 16384];
+    begin_page(&mut page, b"", b"", true);
     for i in 0..count {
         let _ = file_next(&mut page, i);
     }
@@ -150,7 +152,8 @@ fn hints_of<W: Write>(out: &mut W, count: u32) -> io::Result<()> {
 
 // "parcel" at width 8 changed to another key: end and effective space before and after.
 fn change_of<W: Write>(out: &mut W, key: &[u8]) -> io::Result<()> {
-    let mut page = begun(b"", b"", false);
+    let mut page = [0u8; 16384];
+    begin_page(&mut page, b"", b"", false);
     let _ = insert::insert(&mut page, 8, b"parcel", 2);
     out.write_all(b"change ")?;
     print_key(out, b"parcel")?;

@@ -10,8 +10,11 @@ use Rattle.paper.specs.Verdicts.{slot_payload, within}
 use Rattle.paper.specs.Searches.{slot_meets}
 use Rattle.paper.specs.Refusals.{judge}
 use Rattle.paper.specs.declared.page.Slot.{Slot}
+use Rattle.paper.specs.declared.refusal.Refusal.{Refusal}
 use Rattle.paper.specs.declared.refusal.Refusal.TheVariants.{SlotNumber, Payload}
 use Rattle.paper.proofs.Fit.{within_fact}
+use Rattle.node.specs.Admit.{slot_read_of}
+use Rattle.node.proofs.Admits.{slot_is, slot-judge, slot-refused}
 use Rattle.node.proofs.Spelling.{suffix-room}
 use Rattle.search.specs.Slot.{rank_of, met_at, met_alone}
 use Rattle.std.specs.declared.cmp.Ordering.{Ordering}
@@ -100,8 +103,32 @@ module _ (w : ℕ) (p : List ℕ) (end : ℕ) (x : List ℕ) (i : ℕ) (s : Slot
 pub met_room : (w m end : ℕ) (s : Slot) → 16384 ≤ m → within end (slot_payload w s) ≡ true → 96 + s.offset + body_bytes 4 s.len ≤ m
 met_room w m end s h e = let l = (within_fact end (slot_payload w s) e).1 in omega arith
 
--- ---- a slot that may not be there
+-- ---- a slot that is visited alone
+module _ (w : ℕ) (p : List ℕ) (count end i : ℕ) where
+  slot-within : (s : Slot) → slot_read_of w p count end i ≡ Ok s → within end (slot_payload w (slot_of p i)) ≡ true
+  unfolding judge
+  slot-within s e = go (ltb i count) (within end (slot_payload w (slot_of p i))) (slot-judge w p count end i s e true (λ q. false))
+    where
+      go : (t u : Bool) → pick t (pick u true false) false ≡ true → u ≡ true
+      go true true e = refl
+      go true false e = e
+      go false true e = refl
+      go false false e = e
+
+  -- its payload lies within the page, of m bytes
+  pub alone-room : (m : ℕ) (s : Slot) → 16384 ≤ m → slot_read_of w p count end i ≡ Ok s → 96 + s.offset + body_bytes 4 s.len ≤ m
+  alone-room m s h e = met_room w m end s h (rw (slot_is w p count end i s e) (slot-within s e))
+
 module _ (w : ℕ) (p : List ℕ) (count end : ℕ) (x : List ℕ) (i : ℕ) where
+  pub alone-refused : (q : Refusal) → slot_read_of w p count end i ≡ Err q → met_alone w p count end x i ≡ Err q
+  unfolding met_alone
+  alone-refused q e = slot-refused w p count end i q e (Ok (slot_meets p (slot_of p i) x)) Err
+
+  pub alone-met : (s : Slot) → slot_read_of w p count end i ≡ Ok s → met_alone w p count end x i ≡ Ok (slot_meets p s x)
+  unfolding met_alone
+  alone-met s e = slot-judge w p count end i s e (Ok (slot_meets p (slot_of p i) x)) Err ∙ rw (slot_is w p count end i s e)
+
+  -- a slot that is not there
   pub alone-gone : count ≤ i → met_alone w p count end x i ≡ Err SlotNumber
   unfolding met_alone judge
   alone-gone h = rw (le-ltb i count h)
@@ -117,4 +144,4 @@ pub ruleset meeting = (meets-told, meets-open, open_room)
 
 pub ruleset meeting_at = (met-out, met-in, met_room)
 
-pub ruleset meeting_alone = (alone-gone, alone-there)
+pub ruleset meeting_alone = (alone-refused, alone-met, alone-room)

@@ -7,7 +7,7 @@ ghost use Rattle.paper.specs.Searches.{slot_meets};
 ghost use Rattle.search.specs.Slot.{rank_of, met_at, met_alone};
 
 use crate::page::Slots;
-use keys::{head, order};
+use keys::{head, order, shared};
 use node::{header, slots};
 use paper::page::Slot;
 use paper::refusal::Refusal;
@@ -63,7 +63,8 @@ fn long_suffix(p: &[u8], s: Slot) -> &[u8]
     &p[start..start + (s.len as usize)]
 }
 
-// How a slot meets a probe's suffix.
+// How a slot meets a probe's suffix, for halving alone: it has the only call of `keys::order::compare` but that of `order_by_shared`, so that
+// all of it melts into the loop.
 #[tactic(auto, using(crate::proofs::Meets::meeting))]
 fn meets(p: &[u8], s: Slot, sought: Sought<'_>) -> Ordering
     requires { 96 + s.offset + body_bytes 4 s.len ≤ length p.now }
@@ -75,7 +76,7 @@ fn meets(p: &[u8], s: Slot, sought: Sought<'_>) -> Ordering
     o
 }
 
-// Slot `i` against a probe's suffix; 14 where its payload lies outside end..16,256.
+// Slot `i` against a probe's suffix, for halving alone; 14 where its payload lies outside end..16,256.
 #[tactic(auto, using(crate::proofs::Meets::meeting_at))]
 pub(crate) fn meet_at(slots: Slots<'_>, i: usize, sought: Sought<'_>) -> Result<Ordering, Refusal>
     requires { i < (header_of slots.page.now).count }
@@ -88,13 +89,24 @@ pub(crate) fn meet_at(slots: Slots<'_>, i: usize, sought: Sought<'_>) -> Result<
     Ok(meets(slots.page, s, sought))
 }
 
-// The same of a slot that may not be there: 10, then 14.
+// How a slot meets a probe's suffix, for calls that look at one slot: its bytes are compared by a call, without which these are shorter. One
+// function for both was tried: find or compare took a quarter more instructions, whichever way it was compiled.
+#[tactic(auto, using(crate::proofs::Meets::meeting))]
+fn meets_alone(p: &[u8], s: Slot, sought: Sought<'_>) -> Ordering
+    requires { 96 + s.offset + body_bytes 4 s.len ≤ length p.now }
+    ensures { result ≡ slot_meets p.now s sought.entry.suffix.now }
+{
+    let Some(o) = rank(s, sought) else {
+        return shared::order_by_shared(long_suffix(p, s), sought.suffix);
+    };
+    o
+}
+
+// Slot `i` against a probe's suffix, for calls that look at one slot; 10 and 14 as for every slot visited.
 #[tactic(auto, using(crate::proofs::Meets::meeting_alone))]
 pub(crate) fn meet_alone(slots: Slots<'_>, i: usize, suffix: &[u8]) -> Result<Ordering, Refusal>
     ensures { let h = header_of slots.entry.page.now in result ≡ met_alone slots.entry.width slots.entry.page.now h.count h.end suffix.now i }
 {
-    if (slots.count() as usize) <= i {
-        return Err(Refusal::SlotNumber);
-    }
-    meet_at(slots, i, Sought::new(suffix))
+    let s = slots::visit_slot(slots.page, slots.count(), slots.end(), slots.width, i)?;
+    Ok(meets_alone(slots.page, s, Sought::new(suffix)))
 }

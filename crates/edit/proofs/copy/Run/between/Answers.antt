@@ -1,6 +1,4 @@
 -- The source's prefix is its own, and what was compared are both prefixes.
-use Rattle.std.proofs.Common.{sym, ◌∙◌}
-use Rattle.keys.proofs.Methods.{same-eq}
 use Rattle.edit.proofs.RunKeys.{prefix-own, shown-own, meeting}
 use Rattle.edit.proofs.copy.Run.between.Goals as goal
 
@@ -11,5 +9,5 @@ invariant_of-result c =
       fenced = pre.0;
       shown = shown-own _ _ pre.1 _ c.prefix-prefix.ensures;
       own = prefix-own _ _ pre.1 _ c.prefix-prefix.ensures;
-      meeting = meeting _ _ pre.0 _ _ c.prefix-whole.ensures _ c.min-cut.ensures _ (c.eq-alike.ensures ∙ sym (same-eq _ _));
+      meeting = meeting _ _ pre.0 _ _ c.prefix-whole.ensures _ c.min-cut.ensures _ c.equal-alike.ensures;
     }

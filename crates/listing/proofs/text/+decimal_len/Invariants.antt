@@ -1,0 +1,5 @@
+-- Each call has a digit less.
+use Rattle.listing.proofs.text.+decimal_len.Given as goal
+
+abbrev pub decreases-decimal_len : goal.decreases-decimal_len
+decreases-decimal_len l = l.n

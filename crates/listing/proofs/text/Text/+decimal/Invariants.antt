@@ -1,5 +1,0 @@
--- Each call has a digit less.
-use Rattle.listing.proofs.text.Text.+decimal.Given as goal
-
-abbrev pub decreases-decimal : goal.decreases-decimal
-decreases-decimal l = l.n
