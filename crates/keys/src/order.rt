@@ -54,7 +54,7 @@ fn words(a: &[u8], b: &[u8], from: usize, n: usize) -> Ordering
     by_number(a.len() as u64, b.len() as u64)
 }
 
-// The order of two keys: unsigned bytes, a proper prefix below. It melts into its two callers, the halving search and `order_by_shared`.
+// The order of two keys: unsigned bytes, a proper prefix below. It melts into its callers in the library, the halving search and `order_by_shared`.
 #[inline(always)]
 pub fn compare(a: &[u8], b: &[u8]) -> Ordering
     ensures { result ≡ order a.now b.now }

@@ -107,7 +107,7 @@ impl<'a> Text<'a> {
     }
 }
 
-// How many digits `n` has: most numbers of a listing have at most four, and are told by comparisons alone.
+// How many digits `n` has. Comparisons alone tell it of a number with at most four, as every slot number has.
 #[tactic(auto, using(crate::proofs::Decimals::counted))]
 fn decimal_len(n: u64) -> usize
     ensures { result ≡ length (decimal n) }
@@ -122,7 +122,7 @@ fn decimal_len(n: u64) -> usize
 }
 
 // The digits of `n`, which fill `out`, from the last one to the first.
-// By index, as `write_hex`: the proof speaks of the digits before a place.
+// By index: the proof speaks of the digits from a place on.
 #[tactic(auto, using(crate::proofs::Decimals::spelled))]
 fn write_decimal(n: u64, out: &mut [u8])
     requires { length out.old ≡ length (decimal n) }

@@ -63,8 +63,7 @@ fn long_suffix(p: &[u8], s: Slot) -> &[u8]
     &p[start..start + (s.len as usize)]
 }
 
-// How a slot meets a probe's suffix, for halving alone: it has the only call of `keys::order::compare` but that of `order_by_shared`, so that
-// all of it melts into the loop.
+// How a slot meets a probe's suffix, for halving alone: with one caller all of it melts into the loop, the comparison of bytes too.
 #[tactic(auto, using(crate::proofs::Meets::meeting))]
 fn meets(p: &[u8], s: Slot, sought: Sought<'_>) -> Ordering
     requires { 96 + s.offset + body_bytes 4 s.len ≤ length p.now }
@@ -89,8 +88,8 @@ pub(crate) fn meet_at(slots: Slots<'_>, i: usize, sought: Sought<'_>) -> Result<
     Ok(meets(slots.page, s, sought))
 }
 
-// How a slot meets a probe's suffix, for calls that look at one slot: its bytes are compared by a call, without which these are shorter. One
-// function for both was tried: find or compare took a quarter more instructions, whichever way it was compiled.
+// How a slot meets a probe's suffix, for calls that look at one slot: the comparison of bytes stands apart from these, which are short. One
+// function for both was tried: find took up to a third more instructions, or compare a quarter.
 #[tactic(auto, using(crate::proofs::Meets::meeting))]
 fn meets_alone(p: &[u8], s: Slot, sought: Sought<'_>) -> Ordering
     requires { 96 + s.offset + body_bytes 4 s.len ≤ length p.now }

@@ -1,4 +1,4 @@
--- Each call has a digit less.
+-- Each call has four digits less.
 use Rattle.listing.proofs.text.+decimal_len.Given as goal
 
 abbrev pub decreases-decimal_len : goal.decreases-decimal_len
